@@ -26,7 +26,7 @@ none-begins [] p free = refl
 none-begins (e ∷ es) p free =
     ⊎-elim (λ z. absurd (free 0 (omega arith) (sym z)))
     (λ nz. cond-false _ _ _ (ne-eqb p 0 nz) ∙ ⊎-elim
-      (λ t. let le = leb-true (length e) p t in
-        cond-true _ _ _ t ∙ none-begins es (p - length e) (λ k h q. free (suc k) (omega arith) (omega (arith, length-append e (joined (take k es))))))
-      (λ t. cond-false _ _ _ t) (cases-bool (leb (length e) p)))
+    (λ t. let le = leb-true (length e) p t in
+    cond-true _ _ _ t ∙ none-begins es (p - length e) (λ k h q. free (suc k) (omega arith) (omega (arith, length-append e (joined (take k es))))))
+    (λ t. cond-false _ _ _ t) (cases-bool (leb (length e) p)))
     (cases-eq p 0)

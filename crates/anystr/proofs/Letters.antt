@@ -38,8 +38,9 @@ element bs rest at c u b e =
     let cs = decodes front in
     let split : decodes bs ≡ cs ++ c ∷ decodes rest = ap decodes (sym (take-append-drop at bs)) ∙ decodes-append front (drop at bs) v ∙ ap (λ xs. cs ++ xs) (decodes-past-char (drop at bs) rest c (utf8-drop bs at u b) e) in
     let part : take (length cs) (decodes bs) ≡ cs = ap (take (length cs)) split ∙ take-at cs (c ∷ decodes rest) (length cs) refl in
-    let es : letters bs ≡ map encode cs ++ encode c ∷ map encode (decodes rest) = ap (map encode) split ∙ map-append encode cs (c ∷ decodes rest) in
-    (length cs,
-     omega (arith, length-letters bs, ap length split, length-append cs (c ∷ decodes rest)),
-     offset-letters bs (length cs) ∙ ap (λ xs. length (encodes xs)) part ∙ ap length (encodes-decodes front v) ∙ length-take-le at bs (b .0),
-     ap (λ xs. getD xs (length cs) []) es ∙ getD-at (map encode cs) (encode c) (map encode (decodes rest)) [] (length cs) (length-map cs encode))
+    let es : letters bs ≡ map encode cs ++ encode c ∷ map encode (decodes rest) = ap (map encode) split ∙ map-append encode cs (c ∷ decodes rest) in (
+      length cs,
+      omega (arith, length-letters bs, ap length split, length-append cs (c ∷ decodes rest)),
+      offset-letters bs (length cs) ∙ ap (λ xs. length (encodes xs)) part ∙ ap length (encodes-decodes front v) ∙ length-take-le at bs (b .0),
+      ap (λ xs. getD xs (length cs) []) es ∙ getD-at (map encode cs) (encode c) (map encode (decodes rest)) [] (length cs) (length-map cs encode),
+    )

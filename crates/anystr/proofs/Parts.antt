@@ -29,12 +29,12 @@ part-bytes es ps a b p =
     let rest = drop w (drop i es) in
     let t : i + w ≡ p .to = let o = p .order in omega arith in
     let whole : joined es ≡ joined (take i es) ++ (joined mid ++ joined rest) =
-        ap joined (sym (take-append-drop i es)) ∙ (joined-append (take i es) (drop i es) ∙ ap (λ r. joined (take i es) ++ r) (ap joined (sym (take-append-drop w (drop i es))) ∙ joined-append mid rest)) in
+    ap joined (sym (take-append-drop i es)) ∙ (joined-append (take i es) (drop i es) ∙ ap (λ r. joined (take i es) ++ r) (ap joined (sym (take-append-drop w (drop i es))) ∙ joined-append mid rest)) in
     let upto : offset es (p .to) ≡ a + length (joined mid) =
-        ap (offset es) (sym t) ∙ (ap (λ xs. length (joined xs)) (take-add i w es) ∙ (ap length (joined-append (take i es) mid) ∙ (length-append (joined (take i es)) (joined mid) ∙ ap (λ n. n + length (joined mid)) (p .start)))) in
+    ap (offset es) (sym t) ∙ (ap (λ xs. length (joined xs)) (take-add i w es) ∙ (ap length (joined-append (take i es) mid) ∙ (length-append (joined (take i es)) (joined mid) ∙ ap (λ n. n + length (joined mid)) (p .start)))) in
     let size : length (joined mid) ≡ b - a = let e = p .end in omega arith in
     ap joined (p .is) ∙ (sym (take-at (joined mid) (joined rest) (b - a) size)
-      ∙ ap (take (b - a)) (sym (ap (drop a) whole ∙ drop-at (joined (take i es)) (joined mid ++ joined rest) a (p .start))))
+    ∙ ap (take (b - a)) (sym (ap (drop a) whole ∙ drop-at (joined (take i es)) (joined mid ++ joined rest) a (p .start))))
 
 pub part-from-split : (es f m r : List (List ℕ)) (a b : ℕ) → es ≡ f ++ (m ++ r) → length (joined f) ≡ a → a + length (joined m) ≡ b → Part es m a b
 part-from-split es f m r a b e la lb = record {

@@ -23,7 +23,11 @@ impl<'a> Bytes<'a> {
     pub fn check(bytes: &[u8]) -> Result<(), Refusal>
         ensures { λ r. ⌜ PassesIf (length (now (bytes .entry)) ≤ most-bytes) (6, 0) r ⌝ }
     {
-        if bytes.len() > MAX_BYTES { Err(Refusal::TooLong) } else { Ok(()) }
+        if bytes.len() > MAX_BYTES {
+            Err(Refusal::TooLong)
+        } else {
+            Ok(())
+        }
     }
 
     // The text of the bytes; the empty text where `check` refuses.
@@ -67,7 +71,9 @@ pub impl<'a> AnyStr for Bytes<'a> as BytesAnyStr {
         let Ok(()) = self.check_bytes(start, end) else {
             return Bytes { bytes: &[] };
         };
-        Bytes { bytes: &self.bytes[start..end] }
+        Bytes {
+            bytes: &self.bytes[start..end],
+        }
     }
 
     fn element_count(&self) -> usize {

@@ -7,7 +7,11 @@ use std::ops::Range;
 fn offset(index: i64, len: usize) -> usize
     ensures { λ r. ⌜ r ≡ counted index len ⌝ }
 {
-    if index < 0 { len.saturating_sub(index.unsigned_abs() as usize) } else { index as usize }
+    if index < 0 {
+        len.saturating_sub(index.unsigned_abs() as usize)
+    } else {
+        index as usize
+    }
 }
 
 // The offsets that an optional start and end mean in a text of `len` bytes. The start may lie past the end.

@@ -36,7 +36,9 @@ impl<'a> Text<'a> {
         }
         match unicode::check_utf8(bytes) {
             Ok(()) => Ok(()),
-            Err(formed) => Err(Refusal::IllFormed { formed: formed as u64 }),
+            Err(formed) => Err(Refusal::IllFormed {
+                formed: formed as u64,
+            }),
         }
     }
 
@@ -92,7 +94,9 @@ pub impl<'a> AnyStr for Text<'a> as TextAnyStr {
         let Ok(()) = self.check_bytes(start, end) else {
             return Text { bytes: &[] };
         };
-        Text { bytes: &self.bytes[start..end] }
+        Text {
+            bytes: &self.bytes[start..end],
+        }
     }
 
     fn element_count(&self) -> usize {

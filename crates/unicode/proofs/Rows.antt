@@ -97,21 +97,24 @@ sequence c s = by (cases-lt c 128) (cases-lt c 2048) (cases-lt c 65536)
     of3 l h =
         ⊎-elim (λ x. row3 _ _ _ (omega arith, omega arith) (omega arith, omega arith) (omega arith, omega arith))
         (λ x. ⊎-elim (λ y. row4 _ _ _ (omega arith, omega arith) (omega arith, omega arith) (omega arith, omega arith))
-          (λ y. ⊎-elim (λ z. row5 _ _ _ (omega arith, omega arith) (omega arith, omega arith) (omega arith, omega arith))
-            (λ z. row6 _ _ _ (omega arith, omega arith) (omega arith, omega arith) (omega arith, omega arith)) (scalar-cases c s))
-          (cases-lt c 53248))
+        (λ y. ⊎-elim (λ z. row5 _ _ _ (omega arith, omega arith) (omega arith, omega arith) (omega arith, omega arith))
+        (λ z. row6 _ _ _ (omega arith, omega arith) (omega arith, omega arith) (omega arith, omega arith)) (scalar-cases c s))
+        (cases-lt c 53248))
         (cases-lt c 4096)
+
     top : (c < 55296) ⊎ ((57344 ≤ c) × (c < 1114112)) → c < 1114112
     top (inl h) = omega arith
     top (inr h) = h .1
+
     of4 : 65536 ≤ c → Sequence ((240 + c / 262144) ∷ next (c / 4096) ∷ next (c / 64) ∷ next c ∷ [])
     of4 l =
         let t = top (scalar-cases c s) in
         ⊎-elim (λ x. row7 _ _ _ _ (omega arith, omega arith) (omega arith, omega arith) (omega arith, omega arith) (omega arith, omega arith))
         (λ x. ⊎-elim (λ y. row8 _ _ _ _ (omega arith, omega arith) (omega arith, omega arith) (omega arith, omega arith) (omega arith, omega arith))
-          (λ y. row9 _ _ _ _ (omega arith, omega arith) (omega arith, omega arith) (omega arith, omega arith) (omega arith, omega arith))
-          (cases-lt c 1048576))
+        (λ y. row9 _ _ _ _ (omega arith, omega arith) (omega arith, omega arith) (omega arith, omega arith) (omega arith, omega arith))
+        (cases-lt c 1048576))
         (cases-lt c 262144)
+
     by : (c < 128) ⊎ (128 ≤ c) → (c < 2048) ⊎ (2048 ≤ c) → (c < 65536) ⊎ (65536 ≤ c) → Sequence (encode c)
     by (inl h) _ _ = subst Sequence (sym (encode-ascii c h)) (row1 c (omega arith, omega arith))
     by (inr l) (inl h) _ = subst Sequence (sym (two c l h)) (row2 _ _ (omega arith, omega arith) (omega arith, omega arith))
@@ -131,7 +134,10 @@ formed-from-utf8 bs (cs, (s, e)) = (map encode cs, sequences cs s, joined-encode
 
 -- the characters come out of the bare fact that there are some
 pub utf8-had : (bs : List ℕ) → ∥ WellFormed bs ∥₁ → Utf8 bs
-utf8-had bs w =
-    (decodes bs,
-    (∥∥₁-elim w (Bool-set (scalars (decodes bs)) true) (λ f. scalars-decodes bs (utf8-from-formed bs f)),
-     ∥∥₁-elim w (List·isSet (hedberg ℕ-discrete) (encodes (decodes bs)) bs) (λ f. encodes-decodes bs (utf8-from-formed bs f))))
+utf8-had bs w = (
+  decodes bs,
+  (
+    ∥∥₁-elim w (Bool-set (scalars (decodes bs)) true) (λ f. scalars-decodes bs (utf8-from-formed bs f)),
+    ∥∥₁-elim w (List·isSet (hedberg ℕ-discrete) (encodes (decodes bs)) bs) (λ f. encodes-decodes bs (utf8-from-formed bs f)),
+  ),
+)

@@ -20,8 +20,11 @@ returns-then-is-boundary-2 c =
 pub returns-else-start-end : need.returns-else-start-end
 returns-else-start-end c =
     let bs = c .args .self .now .bytes .now in
-    let u = utf8-had bs (c .args .self .now .formed) in
-    (λ k. let o = k .order in elim (c .else-start-end .came) [
-      else-start-end·by·then-start-end·then-is-boundary·else-is-boundary-2 w ↦ not-from-decides _ (w .is-boundary-then-is-boundary .ensures) (w .if-is-boundary-2 .left) (boundary-back bs (c .args .end) u (k .end)) |
-      else-start-end·by·then-start-end·else-is-boundary w ↦ not-from-decides _ (w .is-boundary .ensures) (w .if-is-boundary .left) (boundary-back bs (c .args .start) u (k .start)) |
-      else-start-end·by·else-start-end w ↦ omega arith ], refl)
+    let u = utf8-had bs (c .args .self .now .formed) in (
+      λ k. let o = k .order in elim (c .else-start-end .came) [
+        | else-start-end·by·then-start-end·then-is-boundary·else-is-boundary-2 w ↦ not-from-decides _ (w .is-boundary-then-is-boundary .ensures) (w .if-is-boundary-2 .left) (boundary-back bs (c .args .end) u (k .end))
+        | else-start-end·by·then-start-end·else-is-boundary w ↦ not-from-decides _ (w .is-boundary .ensures) (w .if-is-boundary .left) (boundary-back bs (c .args .start) u (k .start))
+        | else-start-end·by·else-start-end w ↦ omega arith
+      ],
+      refl,
+    )

@@ -23,8 +23,9 @@ returns-then-offset-self c =
     let u = utf8-had bs (c .args .self .now .formed) in
     record {
       element = sym (none-begins (letters bs) (c .args .offset) (λ k h e. elim (c .then-offset-self .came) [
-        then-offset-self·by·then-offset-self w ↦ omega (arith, begins-within bs k u h) |
-        then-offset-self·by·else-offset-self·then-not-is-boundary w ↦ not-from-decides _ (w .is-boundary .ensures) (w .if-not-is-boundary .taken) (boundary-back bs (c .args .offset) u (k, e)) ]));
+        | then-offset-self·by·then-offset-self w ↦ omega (arith, begins-within bs k u h)
+        | then-offset-self·by·else-offset-self·then-not-is-boundary w ↦ not-from-decides _ (w .is-boundary .ensures) (w .if-not-is-boundary .taken) (boundary-back bs (c .args .offset) u (k, e))
+      ]));
       len = tt;
     }
 
