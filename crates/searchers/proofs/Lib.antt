@@ -1,0 +1,4 @@
+pub mod Tables
+pub mod Needles
+pub mod Answered
+pub mod OnText

@@ -1,4 +1,8 @@
 // Searchers: what finds marks in texts.
 pub mod mark;
-mod scan;
 pub mod searcher;
+mod scan;
+pub mod ascii;
+pub mod substring;
+pub mod byteset;
+pub mod lineends;
