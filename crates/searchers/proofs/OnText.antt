@@ -1,12 +1,13 @@
 -- The marks of each searcher lie on boundaries.
 use Prim.Native.Nat.{ℕ, suc, _+_, _<_}
-use mathlib.Core.Path.{_≡_, sym, subst}
+use mathlib.Core.Path.{_≡_, sym, ap, subst}
 use mathlib.Core.Bool.{Bool, true}
 use mathlib.Core.List.{List}
 use native.Mathlib.Omega.{arith}
 use lib.ListN.{length, getD}
 use Rattle.std.specs.Written.{joined}
 use Rattle.anystr.specs.Elements.{Boundary, Occurs}
+use Rattle.anystr.specs.OfBytes.{singles, joined-singles, boundary}
 use Rattle.searchers.specs.Ascii.{AsciiApart}
 use Rattle.searchers.specs.Lines.{LineEnd, pair, lone-cr, lone-lf, line-end, line-end-is, stands}
 use Rattle.searchers.specs.Occurrences.{occurrence, occurrence-is}
@@ -23,11 +24,12 @@ occurrences-on es n whole a e m =
     let w = whole a (o .nonempty) (o .occurs) in
     (w .0, subst (Boundary es) (sym (o .end)) (w .1))
 
-pub singles-on : (es : List (List ℕ)) (set : ℕ → Bool) → AsciiApart es → ((b : ℕ) → set b ≡ true → b < 128) → Bounded es (single set (joined es))
-singles-on es set apart low a e m =
-    let s = single-is set (joined es) a e m in
-    let w = apart a (s .within) (low _ (s .has)) in
-    (w .0, subst (Boundary es) (sym (s .end)) (w .1))
+-- in Bytes every offset is a boundary
+pub bytes-on : (bs : List ℕ) (set : ℕ → Bool) → Bounded (singles bs) (single set (joined (singles bs)))
+bytes-on bs set a e m =
+    let s = single-is set (joined (singles bs)) a e m in
+    let l = ap length (joined-singles bs) in
+    (boundary bs a (omega arith), boundary bs e (omega arith))
 
 line-end-on : (es : List (List ℕ)) (a e : ℕ) → AsciiApart es → LineEnd (joined es) a e → Boundary es a × Boundary es e
 line-end-on es a e apart (pair x y z) =

@@ -1,14 +1,20 @@
 -- A table of all bytes, as the set of those that were written into it.
-use Prim.Native.Nat.{ℕ, _<_}
+use Prim.Native.Nat.{ℕ, zero, suc, _<_}
 use mathlib.Core.Path.{_≡_, refl, sym, ap, subst, _∙_}
 use mathlib.Core.Bool.{Bool, true, false, _||_, or-false, or-assoc}
 use mathlib.Core.List.{List, [], _∷_, _++_}
 use mathlib.Core.Logic.{⊎-elim}
-use lib.ListN.{length, getD, set}
+use lib.ListN.{length, getD, set, replicate}
 use lib.Dec.{eqb}
 use Rattle.std.proofs.shelf.Lists.{getD-set-same, getD-set-other}
 use Rattle.std.proofs.shelf.Tests.{eq-eqb, ne-eqb, cases-eq, or-right}
 use Rattle.searchers.specs.Sets.{among, member}
+
+-- the empty table
+pub none-in : (n b : ℕ) → member (replicate n false) b ≡ false
+none-in zero b = refl
+none-in (suc n) zero = refl
+none-in (suc n) (suc b) = none-in n b
 
 among-more : (xs : List ℕ) (x b : ℕ) → among (xs ++ x ∷ []) b ≡ (among xs b || eqb x b)
 among-more [] x b = or-false (eqb x b)

@@ -37,10 +37,10 @@ line-end-is bs a e m =
     ⊎-elim
     (λ h. let p = and-parts _ _ h in let q = and-parts _ _ (p .1) in pair (eqb-true _ _ (p .0)) (eqb-true _ _ (q .0)) (eqb-true _ _ (q .1)))
     (λ h. ⊎-elim
-      (λ k. let p = and-parts _ _ k in let q = and-parts _ _ (p .1) in lone-cr (eqb-true _ _ (p .0)) (eqb-false _ _ (not-true _ (q .0))) (eqb-true _ _ (q .1)))
-      (λ k. let p = and-parts _ _ k in let q = and-parts _ _ (p .1) in
-        lone-lf (eqb-true _ _ (p .0)) (λ some before. both-ways _ (not-true _ (q .0)) (and-from _ _ (lt-ltb 0 a some) (eq-eqb _ _ before))) (eqb-true _ _ (q .1)))
-      (or-cases _ _ h))
+    (λ k. let p = and-parts _ _ k in let q = and-parts _ _ (p .1) in lone-cr (eqb-true _ _ (p .0)) (eqb-false _ _ (not-true _ (q .0))) (eqb-true _ _ (q .1)))
+    (λ k. let p = and-parts _ _ k in let q = and-parts _ _ (p .1) in
+    lone-lf (eqb-true _ _ (p .0)) (λ some before. both-ways _ (not-true _ (q .0)) (and-from _ _ (lt-ltb 0 a some) (eq-eqb _ _ before))) (eqb-true _ _ (q .1)))
+    (or-cases _ _ h))
     (or-cases _ _ (true-of _ m))
 
 -- a byte that is not 0 stands within the bytes

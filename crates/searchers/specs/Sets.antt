@@ -8,6 +8,10 @@ use lib.ListN.{length, getD}
 use lib.Dec.{T, eqb, ltb}
 use borrow.Author.Tests.{eqb-true, ltb-true}
 use Rattle.std.proofs.shelf.Tests.{and-parts}
+use Rattle.std.specs.declared.result.Result.{Result}
+use Rattle.std.specs.declared.result.Result.the-variants.{Ok, Err}
+use Rattle.anystr.specs.Refusals.{code}
+use Rattle.anystr.specs.declared.refusal.Refusal.{Refusal}
 use Rattle.searchers.specs.Marks.{Marks, Lawful}
 use Rattle.searchers.specs.Truth.{true-of}
 
@@ -24,6 +28,10 @@ member has b = getD has b false
 abbrev pub single : (ℕ → Bool) → List ℕ → Marks
 single set bs a e = ltb a (length bs) && (eqb e (suc a) && set (getD bs a 0))
 
+-- a set that is held as a table has no byte of 128 or more
+abbrev pub AllLow : List Bool → Type 0
+AllLow has = (b : ℕ) → member has b ≡ true → b < 128
+
 -- n is the least byte of 128 or more among these
 pub record LeastHigh (bs : List ℕ) (n : ℕ) : Type 0 where
   pub high : 128 ≤ n
@@ -34,6 +42,12 @@ pub record LeastHigh (bs : List ℕ) (n : ℕ) : Type 0 where
 abbrev pub Ascii : List ℕ → Type 0
 Ascii bs = (b : ℕ) → among bs b ≡ true → b < 128
 
+-- what the check of a set for Text answers
+abbrev pub AsciiChecked : {X : Type 0} → List ℕ → Result X Refusal → Type 0
+AsciiChecked bs (Ok _) = Ascii bs
+AsciiChecked bs (Err e) = (n : ℕ) × LeastHigh bs n × (code e ≡ (11, n))
+
+-- a mark of a set, by its parts
 pub record Single (set : ℕ → Bool) (bs : List ℕ) (a e : ℕ) : Type 0 where
   pub within : a < length bs
   pub end : e ≡ suc a

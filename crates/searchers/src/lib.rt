@@ -1,8 +1,9 @@
 // Searchers: what finds marks in texts.
-pub mod mark;
-pub mod searcher;
-mod scan;
 pub mod ascii;
-pub mod substring;
+pub mod asciiset;
 pub mod byteset;
 pub mod lineends;
+pub mod mark;
+mod scan;
+pub mod searcher;
+pub mod substring;

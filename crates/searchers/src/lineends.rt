@@ -40,7 +40,11 @@ impl Pattern for LineEnds as LineEndsPattern {
 
     fn mark_from(&self, bytes: &[u8], start: usize) -> Option<usize> {
         if is_cr(bytes, start) {
-            return if is_lf(bytes, start + 1) { Some(start + 2) } else { Some(start + 1) };
+            return if is_lf(bytes, start + 1) {
+                Some(start + 2)
+            } else {
+                Some(start + 1)
+            };
         }
         if is_lf(bytes, start) && (start == 0 || !is_cr(bytes, start - 1)) {
             return Some(start + 1);
@@ -54,7 +58,11 @@ impl Pattern for LineEnds as LineEndsPattern {
         }
         let last = end - 1;
         if is_lf(bytes, last) {
-            return if last > 0 && is_cr(bytes, last - 1) { Some(last - 1) } else { Some(last) };
+            return if last > 0 && is_cr(bytes, last - 1) {
+                Some(last - 1)
+            } else {
+                Some(last)
+            };
         }
         if is_cr(bytes, last) && !is_lf(bytes, end) {
             return Some(last);

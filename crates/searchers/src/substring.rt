@@ -26,7 +26,11 @@ impl<S: AnyStr> Substring<S> {
     pub fn check(needle: &S) -> Result<(), Refusal>
         ensures { λ r. ⌜ PassesIf (0 < length (joined (S·AnyStr .elements (now (needle .entry))))) (1, 0) r ⌝ }
     {
-        if needle.is_empty() { Err(Refusal::EmptyNeedle) } else { Ok(()) }
+        if needle.is_empty() {
+            Err(Refusal::EmptyNeedle)
+        } else {
+            Ok(())
+        }
     }
 
     // The searcher for the needle. For an empty one, which `check` refuses, it has no marks.
@@ -62,7 +66,11 @@ impl<'a> Pattern for Needle<'a> as NeedlePattern {
         if n == 0 || bytes.len() < n || bytes.len() - n < start {
             return None;
         }
-        if stands_at(bytes, self.bytes, start) { Some(start + n) } else { None }
+        if stands_at(bytes, self.bytes, start) {
+            Some(start + n)
+        } else {
+            None
+        }
     }
 
     fn mark_to(&self, bytes: &[u8], end: usize) -> Option<usize> {
@@ -70,7 +78,11 @@ impl<'a> Pattern for Needle<'a> as NeedlePattern {
         if n == 0 || end < n || bytes.len() < end {
             return None;
         }
-        if stands_at(bytes, self.bytes, end - n) { Some(end - n) } else { None }
+        if stands_at(bytes, self.bytes, end - n) {
+            Some(end - n)
+        } else {
+            None
+        }
     }
 }
 
@@ -80,14 +92,18 @@ pub impl<S: AnyStr> Searcher<S> for Substring<S> as SubstringSearcher {
     ghost lawful = { λ f es. occurrence-lawful (joined (S·AnyStr .elements (f .needle))) (joined es) };
 
     fn find(&self, text: &S, from: usize) -> Option<Mark> {
-        let needle = Needle { bytes: self.needle.as_bytes() };
+        let needle = Needle {
+            bytes: self.needle.as_bytes(),
+        };
         first_mark(&needle, text.as_bytes(), from)
     }
 }
 
 pub impl<S: AnyStr> ReverseSearcher<S> for Substring<S> as SubstringReverseSearcher {
     fn rfind(&self, text: &S, before: usize) -> Option<Mark> {
-        let needle = Needle { bytes: self.needle.as_bytes() };
+        let needle = Needle {
+            bytes: self.needle.as_bytes(),
+        };
         last_mark(&needle, text.as_bytes(), before)
     }
 }

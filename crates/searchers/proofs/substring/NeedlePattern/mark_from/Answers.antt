@@ -11,6 +11,7 @@ returns-then-n-eq0 c e m =
     let o = occurrence-is n bs (c .args .start) e m in
     let fits = occurs-within bs n (c .args .start) (o .nonempty) (o .occurs) in
     elim (c .then-n-eq0 .came) [
-      then-n-eq0·by·then-n-eq0 w ↦ omega arith |
-      then-n-eq0·by·else-n-eq0·then-bytes-n w ↦ omega arith |
-      then-n-eq0·by·else-n-eq0·else-bytes-n·then-bytes-n-2 w ↦ omega arith ]
+      | then-n-eq0·by·then-n-eq0 w ↦ omega arith
+      | then-n-eq0·by·else-n-eq0·then-bytes-n w ↦ omega arith
+      | then-n-eq0·by·else-n-eq0·else-bytes-n·then-bytes-n-2 w ↦ omega arith
+    ]

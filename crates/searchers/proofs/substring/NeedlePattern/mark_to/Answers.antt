@@ -11,6 +11,7 @@ returns-then-n-eq0 c a m =
     let o = occurrence-is n bs a (c .args .end) m in
     let fits = occurs-within bs n a (o .nonempty) (o .occurs) in
     elim (c .then-n-eq0 .came) [
-      then-n-eq0·by·then-n-eq0 w ↦ omega arith |
-      then-n-eq0·by·else-n-eq0·then-end-n w ↦ omega arith |
-      then-n-eq0·by·else-n-eq0·else-end-n·then-bytes-end w ↦ omega arith ]
+      | then-n-eq0·by·then-n-eq0 w ↦ omega arith
+      | then-n-eq0·by·else-n-eq0·then-end-n w ↦ omega arith
+      | then-n-eq0·by·else-n-eq0·else-end-n·then-bytes-end w ↦ omega arith
+    ]
