@@ -1,0 +1,5 @@
+pub mod Greedy
+pub mod Listed
+pub mod Reach
+pub mod Runs
+pub mod Found

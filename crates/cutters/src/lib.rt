@@ -1,0 +1,3 @@
+// Cutters: texts cut at marks, piece by piece.
+pub mod piece;
+pub mod cutter;
