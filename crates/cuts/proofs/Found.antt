@@ -30,7 +30,7 @@ module _ (marks : Marks) (bound : ℤ) (made place : ℕ) where
       by true more = cond-false _ _ _ (and-left (leb place a) (fewer made bound) (lt-leb place a lt))
       by false more = more
 
-  listed-past : (a n : ℕ) → a + n ≤ place → cuts bound made place (listed marks a n) ≡ []
+  pub listed-past : (a n : ℕ) → a + n ≤ place → cuts bound made place (listed marks a n) ≡ []
   listed-past a zero le = refl
   listed-past a (suc n) le = begun-past a (suc a) (suc n) (listed marks (suc a) n) (omega arith) ∙ listed-past (suc a) n (omega arith)
 

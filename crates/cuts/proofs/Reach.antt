@@ -55,7 +55,7 @@ length-marks : (row : List Cut) → length (marks-of row) ≡ length row
 length-marks [] = refl
 length-marks (x ∷ xs) = ap suc (length-marks xs)
 
-length-between : (place len : ℕ) (ms : List Span) → length (between place len ms) ≡ suc (length ms)
+pub length-between : (place len : ℕ) (ms : List Span) → length (between place len ms) ≡ suc (length ms)
 length-between place len [] = refl
 length-between place len (m ∷ ms) = ap suc (length-between (m .1) len ms)
 

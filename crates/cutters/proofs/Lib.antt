@@ -1,2 +1,4 @@
 pub mod Ends
 pub mod Steps
+pub mod Same
+pub mod Turns

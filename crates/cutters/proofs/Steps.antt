@@ -6,14 +6,16 @@ use mathlib.Core.List.{List, []}
 use native.Mathlib.Numerals.{add-one}
 use lib.ListN.{length}
 use Rattle.std.specs.Written.{joined}
-use Rattle.std.specs.declared.option.Option.the-variants.{Some}
+use Rattle.std.specs.declared.option.Option.{Option}
+use Rattle.std.specs.declared.option.Option.the-variants.{Some, None}
 use Rattle.anystr.specs.Elements.{Boundary}
-use Rattle.searchers.specs.Marks.{Span, Lawful, Least}
+use Rattle.searchers.specs.Marks.{Span, Lawful, Least, Finds}
+use Rattle.searchers.specs.declared.mark.Mark.{Mark}
 use Rattle.cuts.specs.Cuts.{Sheet, size, cut-from, State, at, next-of}
 use Rattle.cuts.specs.Runs.{Step, next}
-use Rattle.cuts.proofs.Found.{next-cut, next-rest}
+use Rattle.cuts.proofs.Found.{next-cut, next-rest, none-found, cut-found}
 use Rattle.cuts.proofs.Greedy.{Few}
-use Rattle.cutters.specs.Calls.{PieceOn, span}
+use Rattle.cutters.specs.Calls.{CutsNext, PieceOn, span}
 use Rattle.cutters.specs.declared.piece.Piece.{Piece}
 use Rattle.cutters.proofs.Ends.{end-on}
 
@@ -34,3 +36,8 @@ pub rest-on : (es : List (List ℕ)) (place place′ : ℕ) (r : Piece) → span
 rest-on es place place′ r er ep b =
     let last = end-on es in
     ((subst (Boundary es) (λ i. sym er i .0) b, subst (Boundary es) (λ i. sym er i .1) last), subst (Boundary es) (sym ep) last)
+
+-- what is cut next, by what the searcher answers
+pub cuts-next : (on : Sheet) → Lawful (on .marks) (size on) → (made place : ℕ) → Few (on .bound) made → (r : Option Mark) → Finds (on .marks) place r → CutsNext on made place r
+cuts-next on law made place few None h = none-found on law made place h
+cuts-next on law made place few (Some m) h = cut-found on law made place (m .start) (m .end) few h

@@ -1,7 +1,7 @@
 -- What each call on a cutter promises: the step of its event. Assumes nothing.
-use Prim.Native.Nat.{ℕ}
+use Prim.Native.Nat.{ℕ, suc}
 use mathlib.Core.Path.{_≡_}
-use mathlib.Core.List.{List}
+use mathlib.Core.List.{List, [], _∷_}
 use lib.ListN.{length, drop}
 use Rattle.std.specs.Options.{mapped}
 use Rattle.std.specs.Written.{joined}
@@ -13,7 +13,8 @@ use Rattle.anystr.specs.Elements.{Boundary}
 use Rattle.anystr.specs.Refusals.{code}
 use Rattle.anystr.specs.declared.refusal.Refusal.{Refusal}
 use Rattle.searchers.specs.Marks.{Marks, Span}
-use Rattle.cuts.specs.Cuts.{Sheet, State, at}
+use Rattle.searchers.specs.declared.mark.Mark.{Mark}
+use Rattle.cuts.specs.Cuts.{Sheet, cut-from, State, at}
 use Rattle.cuts.specs.Runs.{Step, next, skip, rest, pours, pour-refused, needed}
 use Rattle.cutters.specs.declared.cutter.Cutter.{Cutter}
 use Rattle.cutters.specs.declared.piece.Piece.{Piece}
@@ -43,6 +44,11 @@ span p = (p .start, p .end)
 abbrev pub PieceOn : List (List ℕ) → Option Piece → Type 0
 PieceOn es None = Unit {0}
 PieceOn es (Some p) = Boundary es (p .start) × Boundary es (p .end)
+
+-- the mark that is cut next from `place` on, after `made` cuts, if one is
+abbrev pub CutsNext : Sheet → ℕ → ℕ → Option Mark → Type 0
+CutsNext on made place None = cut-from on made place ≡ []
+CutsNext on made place (Some m) = cut-from on made place ≡ (m .start, m .end) ∷ cut-from on (suc made) (m .end)
 
 -- next's answer, and the state after it
 abbrev pub Nexts : Sheet → State → Option Piece → State → Type 0

@@ -1,15 +1,17 @@
 // The calls on a cutter.
 ghost use mathlib.Core.Path.{_≡_};
-ghost use mathlib.Core.Bool.{true};
+ghost use mathlib.Core.Bool.{true, false};
 ghost use lib.ListN.{length};
 ghost use Rattle.std.specs.Written.{joined};
 ghost use Rattle.std.specs.declared.option.Option.the-variants.{Some};
 ghost use Rattle.cuts.specs.Cuts.{opened, at, fewer as few-cuts};
-ghost use Rattle.cuts.specs.Runs.{RunsLaw};
-ghost use Rattle.cutters.specs.Calls.{sheet, state, span, SameSheet, Placed, PieceOn, Nexts, Rests};
+ghost use Rattle.cuts.specs.Runs.{RunsLaw, needed};
+ghost use Rattle.cutters.specs.Calls.{sheet, state, span, SameSheet, Placed, PieceOn, Nexts, Rests, Skips, CutsNext};
 use super::Cutter;
 use crate::piece::Piece;
 use anystr::anystr::AnyStr;
+use anystr::refusal::Refusal;
+use searchers::mark::Mark;
 use searchers::searcher::Searcher;
 
 // Whether the cuts made are fewer than the bound; a negative bound is no bound.
@@ -70,5 +72,52 @@ impl<S: AnyStr, F: Searcher<S>> Cutter<S, F> {
         self.place = mark.end;
         self.made += 1;
         Some(Piece { start: place, end: mark.start })
+    }
+    // Passes over `n` pieces; refused, with the number of pieces left, where these are fewer.
+    pub fn skip(&mut self, n: u64) -> Result<(), Refusal>
+        ensures step { λ r. ⌜ Skips (sheet (F·Searcher .marks) (S·AnyStr .elements) (now (self .entry))) (state (now (self .entry))) n r (state (now (self .exit))) ⌝ }
+        ensures same { λ _. ⌜ SameSheet (now (self .entry)) (now (self .exit)) ⌝ }
+        ensures cut { λ _. ⌜ (Placed (S·AnyStr .elements) (now (self .entry)) → Placed (S·AnyStr .elements) (now (self .exit))) ⌝ }
+    {
+        let place = self.place;
+        let made = self.made;
+        let spent = self.spent;
+        for done in 0..n {
+            let Some(_) = self.next() else {
+                self.place = place;
+                self.made = made;
+                self.spent = spent;
+                return Err(Refusal::TooFew { left: done });
+            };
+        }
+        Ok(())
+    }
+
+    // The mark that is cut next from `place` on, after `made` cuts, if one is.
+    fn cut_from(&self, place: usize, made: u64) -> Option<Mark>
+        ensures { λ r. ⌜ CutsNext (sheet (F·Searcher .marks) (S·AnyStr .elements) (now (self .entry))) made place r ⌝ }
+    {
+        if !fewer(made, self.bound) {
+            return None;
+        }
+        let text = self.text;
+        self.searcher.find(&text, place)
+    }
+
+    // The bytes that the rest takes with `to` in place of each mark still to be cut.
+    fn measure(&self, to: &S) -> u64
+        requires { ⌜ now self .spent ≡ false ⌝ }
+        ensures { λ r. ⌜ r ≡ length (needed (sheet (F·Searcher .marks) (S·AnyStr .elements) (now (self .entry))) (joined (S·AnyStr .elements (now (to .entry)))) (state (now (self .entry)))) ⌝ }
+    {
+        let gap = to.bytes_len();
+        let mut place = self.place;
+        let mut made = self.made;
+        let mut sum = 0;
+        while let Some(mark) = self.cut_from(place, made) {
+            sum += mark.start - place + gap;
+            place = mark.end;
+            made += 1;
+        }
+        (sum + self.text.bytes_len().saturating_sub(place)) as u64
     }
 }

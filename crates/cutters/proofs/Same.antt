@@ -1,0 +1,15 @@
+-- A cutter keeps what it was opened on.
+use Prim.Native.Nat.{ℕ}
+use mathlib.Core.Path.{_≡_, _∙_}
+use mathlib.Core.List.{List}
+use Rattle.std.specs.Written.{joined}
+use Rattle.searchers.specs.Marks.{Marks}
+use Rattle.cutters.specs.Calls.{sheet, SameSheet}
+use Rattle.cutters.specs.declared.cutter.Cutter.{Cutter}
+
+module _ {S F C : Type 0} where
+  pub same-sheet : (marks : F → List (List ℕ) → Marks) (elements : S → List (List ℕ)) (c d : Cutter S F C) → SameSheet c d → sheet marks elements d ≡ sheet marks elements c
+  same-sheet marks elements c d q = λ i. record { marks = marks (q .searcher i) (elements (q .text i)); bytes = joined (elements (q .text i)); bound = q .bound i }
+
+  pub same-again : (c d e : Cutter S F C) → SameSheet c d → SameSheet d e → SameSheet c e
+  same-again c d e p q = record { text = q .text ∙ p .text; searcher = q .searcher ∙ p .searcher; bound = q .bound ∙ p .bound }
