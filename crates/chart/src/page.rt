@@ -1,0 +1,76 @@
+// The layout of a sheet that is shown, line by line.
+use super::escapes::add_text;
+use anystr::anystr::AnyStr;
+use anystr::refusal::Refusal;
+use std::alloc::Global;
+use std::io;
+use std::io::Write;
+
+// The counts below a sheet.
+#[derive(Clone, Copy)]
+pub struct Tally {
+    pub rows: usize,
+    pub fields: usize,
+    pub empty: usize,
+}
+
+// Where a sheet is shown.
+#[derive(Drop)]
+pub struct Page<W: Write> {
+    out: W,
+    // the content of the field that is shown
+    content: Vec<u8>,
+}
+
+impl<W: Write> Page<W> {
+    pub fn new(out: W, heap: Global) -> Page<W> {
+        Page {
+            out,
+            content: Vec::new(heap),
+        }
+    }
+
+    // The sheet's size, and what the check for well-formed text said.
+    pub fn head<S: AnyStr>(&mut self, sheet: &S, checked: Result<(), Refusal>) -> io::Result<()> {
+        let bytes = sheet.bytes_len();
+        writeln!(self.out, "sheet  {bytes} bytes")?;
+        match checked {
+            Ok(()) => {
+                let characters = sheet.element_count();
+                writeln!(self.out, "text   well formed, {characters} characters")
+            }
+            Err(refusal) => {
+                let (number, offset) = refusal.code();
+                writeln!(self.out, "text   not well formed from offset {offset} on (refusal {number})")
+            }
+        }
+    }
+
+    pub fn row(&mut self, number: usize, start: usize, end: usize) -> io::Result<()> {
+        writeln!(self.out, "\nrow {number:>4}  {start:>8}..{end}")
+    }
+
+    pub fn field<S: AnyStr>(&mut self, number: usize, start: usize, end: usize, content: &S) -> io::Result<()> {
+        self.content.clear();
+        add_text(&mut self.content, content)?;
+        write!(self.out, "    {number:>4}  {start:>8}..{end:<8}  \"")?;
+        self.out.write_all(self.content.as_slice())?;
+        self.out.write_all(b"\"\n")
+    }
+
+    pub fn counts(&mut self, tally: &Tally, tabs: usize, blanks: usize) -> io::Result<()> {
+        let rows = tally.rows;
+        let fields = tally.fields;
+        let empty = tally.empty;
+        writeln!(self.out, "\nrows          {rows:>8}")?;
+        writeln!(self.out, "fields        {fields:>8}")?;
+        writeln!(self.out, "empty fields  {empty:>8}")?;
+        writeln!(self.out, "tabs          {tabs:>8}")?;
+        writeln!(self.out, "blanks        {blanks:>8}")
+    }
+
+    // Everything is written out.
+    pub fn finish(&mut self) -> io::Result<()> {
+        self.out.flush()
+    }
+}
