@@ -11,6 +11,7 @@ use Rattle.std.proofs.shelf.Lists.{take-rest}
 use Rattle.std.proofs.shelf.Tests.{cases-lt}
 use Rattle.searchers.specs.Marks.{Span, Lawful}
 use Rattle.cuts.specs.Cuts.{Sheet, size, cut-from, State, at, to-cut, pieces-left, between, poured, next-of, after-cut, nexts}
+use Rattle.cuts.specs.Runs.{Step, next}
 use Rattle.cuts.proofs.Greedy.{Greedy, greedy-one}
 use Rattle.cuts.proofs.Listed.{greedy-cuts}
 use Rattle.cuts.proofs.Found.{listed-past}
@@ -90,8 +91,18 @@ nexted sheet law place made = by (cut-from sheet made place) refl
           ended = λ q. absurd (false≢true q);
         }
 
--- a next that gives a piece leaves one fewer
-pub left-some : (sheet : Sheet) → Lawful (sheet .marks) (size sheet) → (place made : ℕ) (spent : Bool) (p : Span) → Some p ≡ next-of sheet (at place made spent) .0
-    → length (pieces-left sheet (at place made spent)) ≡ suc (length (pieces-left sheet (next-of sheet (at place made spent) .1)))
-left-some sheet law place made true p e = absurd (none-some p (sym e))
-left-some sheet law place made false p e = let n = nexted sheet law place made in n .left ∙ (λ i. suc (length (pieces-left sheet (sym (n .is) i .1))))
+-- what a next that gives a piece changes
+pub record Gave (sheet : Sheet) (s : State) (p : Span) (t : State) : Type 0 where
+  pub left : length (pieces-left sheet s) ≡ suc (length (pieces-left sheet t))
+  pub made-all : s .made + length (to-cut sheet s) ≡ t .made + length (to-cut sheet t)
+  pub pour : (to : List ℕ) → to-pour sheet to s ≡ take (p .1 - p .0) (drop (p .0) (sheet .bytes)) ++ (cond (t .spent) [] to ++ to-pour sheet to t)
+  pub ended : t .spent ≡ true → t .place ≡ size sheet
+
+pub gave : (sheet : Sheet) → Lawful (sheet .marks) (size sheet) → (place made : ℕ) (spent : Bool) (p : Span) (t : State) → Step sheet (at place made spent) (next (Some p)) t → Gave sheet (at place made spent) p t
+gave sheet law place made true p t h = absurd (none-some p (sym (h .0)))
+gave sheet law place made false p t h =
+    let n = nexted sheet law place made in
+    let same : p ≡ (place, n .end) = let e : Some p ≡ Some (place, n .end) = h .0 ∙ (λ i. n .is i .0) in cc in
+    let then : t ≡ n .t = h .1 ∙ (λ i. n .is i .1) in
+    let here : Gave sheet (at place made false) (place, n .end) (n .t) = record { left = n .left; made-all = n .made-all; pour = n .pour; ended = n .ended } in
+    subst (λ (u : State). Gave sheet (at place made false) p u) (sym then) (subst (λ (q : Span). Gave sheet (at place made false) q (n .t)) (sym same) here)

@@ -76,6 +76,10 @@ pub data Event : Type 0 where
 abbrev pub needed : Sheet → List ℕ → State → List ℕ
 needed sheet to s = poured (sheet .bytes) to (s .place) (to-cut sheet s)
 
+-- the state after a pour
+abbrev pub poured-out : Sheet → State → State
+poured-out sheet s = at (size sheet) (s .made + length (to-cut sheet s)) true
+
 -- what each call's contract says of its answer and of the state after it
 abbrev pub Step : Sheet → State → Event → State → Type 0
 Step sheet s (next r) t = (r ≡ next-of sheet s .0) × (t ≡ next-of sheet s .1)
@@ -84,7 +88,7 @@ Step sheet s (skip n (Some k)) t = (length (pieces-left sheet s) < n) × (k ≡ 
 Step sheet s (rest r) t = (r ≡ (s .place, size sheet)) × (t ≡ s)
 Step sheet s (pours to held free held′ free′) t =
     (s .spent ≡ false) × (length (needed sheet to s) ≤ free) × (held′ ≡ held ++ needed sheet to s) × (free′ + length (needed sheet to s) ≡ free)
-    × (t ≡ at (size sheet) (s .made + length (to-cut sheet s)) true)
+    × (t ≡ poured-out sheet s)
 Step sheet s (pour-refused to held free held′ free′ None) t = (s .spent ≡ true) × (held′ ≡ held) × (free′ ≡ free) × (t ≡ s)
 Step sheet s (pour-refused to held free held′ free′ (Some n)) t =
     (s .spent ≡ false) × (free < length (needed sheet to s)) × (n ≡ length (needed sheet to s)) × (held′ ≡ held) × (free′ ≡ free) × (t ≡ s)

@@ -1,10 +1,13 @@
 -- A cutter keeps what it was opened on.
 use Prim.Native.Nat.{ℕ}
-use mathlib.Core.Path.{_≡_, _∙_}
+use mathlib.Core.Path.{_≡_, subst, _∙_}
 use mathlib.Core.List.{List}
 use Rattle.std.specs.Written.{joined}
-use Rattle.searchers.specs.Marks.{Marks}
-use Rattle.cutters.specs.Calls.{sheet, SameSheet}
+use Rattle.std.specs.declared.option.Option.the-variants.{Some}
+use Rattle.searchers.specs.Marks.{Marks, Span}
+use Rattle.cuts.specs.Cuts.{Sheet}
+use Rattle.cuts.specs.Runs.{Step, next}
+use Rattle.cutters.specs.Calls.{sheet, state, SameSheet}
 use Rattle.cutters.specs.declared.cutter.Cutter.{Cutter}
 
 module _ {S F C : Type 0} where
@@ -13,3 +16,8 @@ module _ {S F C : Type 0} where
 
   pub same-again : (c d e : Cutter S F C) → SameSheet c d → SameSheet d e → SameSheet c e
   same-again c d e p q = record { text = q .text ∙ p .text; searcher = q .searcher ∙ p .searcher; bound = q .bound ∙ p .bound }
+
+  -- a next on a cutter that was opened on the same is a step on that
+  pub step-on : (marks : F → List (List ℕ) → Marks) (elements : S → List (List ℕ)) (c d e : Cutter S F C) (p : Span) → SameSheet c d
+      → Step (sheet marks elements d) (state d) (next (Some p)) (state e) → Step (sheet marks elements c) (state d) (next (Some p)) (state e)
+  step-on marks elements c d e p q h = subst (λ (o : Sheet). Step o (state d) (next (Some p)) (state e)) (same-sheet marks elements c d q) h

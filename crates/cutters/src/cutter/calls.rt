@@ -1,24 +1,46 @@
 // The calls on a cutter.
 ghost use mathlib.Core.Path.{_≡_};
 ghost use mathlib.Core.Bool.{true, false};
-ghost use lib.ListN.{length};
+ghost use mathlib.Core.List.{_++_};
+ghost use Prim.Native.Nat.{_-_, _≤_};
+ghost use lib.ListN.{length, take, drop};
 ghost use Rattle.std.specs.Written.{joined};
 ghost use Rattle.std.specs.declared.option.Option.the-variants.{Some};
 ghost use Rattle.cuts.specs.Cuts.{opened, at, fewer as few-cuts};
-ghost use Rattle.cuts.specs.Runs.{RunsLaw, needed};
-ghost use Rattle.cutters.specs.Calls.{sheet, state, span, SameSheet, Placed, PieceOn, Nexts, Rests, Skips, CutsNext};
+ghost use Rattle.cuts.specs.Runs.{RunsLaw, needed, poured-out};
+ghost use Rattle.cutters.specs.Calls.{sheet, state, span, SameSheet, Placed, PieceOn, Nexts, Rests, Skips, CutsNext, Pours};
 use super::Cutter;
 use crate::piece::Piece;
 use anystr::anystr::AnyStr;
+use anystr::bytes::Bytes;
+use anystr::bytes::BytesAnyStr;
 use anystr::refusal::Refusal;
 use searchers::mark::Mark;
 use searchers::searcher::Searcher;
+use trays::container::AnyStrContainer;
 
 // Whether the cuts made are fewer than the bound; a negative bound is no bound.
 fn fewer(made: u64, bound: i64) -> bool
     ensures { λ r. ⌜ r ≡ few-cuts made bound ⌝ }
 {
     bound < 0 || made < bound as u64
+}
+
+// The bytes from `start` to `end`, as far as there are any.
+fn stretch(bytes: &[u8], start: usize, end: usize) -> &[u8]
+    ensures { λ r. ⌜ now r ≡ take (end - start) (drop start (now (bytes .entry))) ⌝ }
+{
+    let end = end.min(bytes.len());
+    if start < end { &bytes[start..end] } else { &[] }
+}
+
+// Appends a text that fits.
+fn append<S: AnyStr, T: AnyStrContainer>(text: &S, tray: &mut T)
+    requires { ⌜ length (joined (S·AnyStr .elements (now text))) ≤ length (T·AnyStrContainer .spare (now tray)) ⌝ }
+    ensures held { λ _. ⌜ T·AnyStrContainer .held (now (tray .exit)) ≡ T·AnyStrContainer .held (now (tray .entry)) ++ joined (S·AnyStr .elements (now (text .entry))) ⌝ }
+    ensures spare { λ _. ⌜ T·AnyStrContainer .spare (now (tray .exit)) ≡ drop (length (joined (S·AnyStr .elements (now (text .entry))))) (T·AnyStrContainer .spare (now (tray .entry))) ⌝ }
+{
+    let _ = tray.push_str(text);
 }
 
 impl<S: AnyStr, F: Searcher<S>> Cutter<S, F> {
@@ -119,5 +141,42 @@ impl<S: AnyStr, F: Searcher<S>> Cutter<S, F> {
             made += 1;
         }
         (sum + self.text.bytes_len().saturating_sub(place)) as u64
+    }
+
+    // Appends the rest, which fits, to the tray with `to` in place of each mark still to be cut.
+    fn pour_pieces<T: AnyStrContainer>(&mut self, to: &S, tray: &mut T)
+        requires unspent { ⌜ now self .spent ≡ false ⌝ }
+        requires fits { ⌜ length (needed (sheet (F·Searcher .marks) (S·AnyStr .elements) (now self)) (joined (S·AnyStr .elements (now to))) (state (now self))) ≤ length (T·AnyStrContainer .spare (now tray)) ⌝ }
+        ensures held { λ _. ⌜ T·AnyStrContainer .held (now (tray .exit)) ≡ T·AnyStrContainer .held (now (tray .entry)) ++ needed (sheet (F·Searcher .marks) (S·AnyStr .elements) (now (self .entry))) (joined (S·AnyStr .elements (now (to .entry)))) (state (now (self .entry))) ⌝ }
+        ensures spare { λ _. ⌜ T·AnyStrContainer .spare (now (tray .exit)) ≡ drop (length (needed (sheet (F·Searcher .marks) (S·AnyStr .elements) (now (self .entry))) (joined (S·AnyStr .elements (now (to .entry)))) (state (now (self .entry))))) (T·AnyStrContainer .spare (now (tray .entry))) ⌝ }
+        ensures after { λ _. ⌜ state (now (self .exit)) ≡ poured-out (sheet (F·Searcher .marks) (S·AnyStr .elements) (now (self .entry))) (state (now (self .entry))) ⌝ }
+        ensures same { λ _. ⌜ SameSheet (now (self .entry)) (now (self .exit)) ⌝ }
+    {
+        let text = self.text;
+        let bytes = text.as_bytes();
+        while let Some(piece) = self.next() {
+            append(&Bytes::new(stretch(bytes, piece.start, piece.end)), tray);
+            if !self.spent {
+                append(to, tray);
+            }
+        }
+    }
+
+    // Appends the rest to the tray with `to` in place of each mark still to be cut; the cutter is spent.
+    // Refused, and nothing changes, where it was spent or the tray has too few free bytes.
+    pub fn pour<T: AnyStrContainer>(&mut self, to: &S, tray: &mut T) -> Result<(), Refusal>
+        ensures step { λ r. ⌜ Pours (sheet (F·Searcher .marks) (S·AnyStr .elements) (now (self .entry))) (state (now (self .entry))) (joined (S·AnyStr .elements (now (to .entry)))) (T·AnyStrContainer .held (now (tray .entry))) (T·AnyStrContainer .spare (now (tray .entry))) (T·AnyStrContainer .held (now (tray .exit))) (T·AnyStrContainer .spare (now (tray .exit))) r (state (now (self .exit))) ⌝ }
+        ensures same { λ _. ⌜ SameSheet (now (self .entry)) (now (self .exit)) ⌝ }
+        ensures cut { λ _. ⌜ (Placed (S·AnyStr .elements) (now (self .entry)) → Placed (S·AnyStr .elements) (now (self .exit))) ⌝ }
+    {
+        if self.spent {
+            return Err(Refusal::Spent);
+        }
+        let needed = self.measure(to);
+        if (tray.free() as u64) < needed {
+            return Err(Refusal::TooSmall { needed });
+        }
+        self.pour_pieces(to, tray);
+        Ok(())
     }
 }
