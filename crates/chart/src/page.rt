@@ -6,7 +6,7 @@ use std::alloc::Global;
 use std::io;
 use std::io::Write;
 
-// The counts below a sheet.
+// The counts below a sheet. A text has far fewer rows and fields than a number holds, so no count saturates.
 #[derive(Clone, Copy)]
 pub struct Tally {
     pub rows: usize,
@@ -41,7 +41,10 @@ impl<W: Write> Page<W> {
             }
             Err(refusal) => {
                 let (number, offset) = refusal.code();
-                writeln!(self.out, "text   not well formed from offset {offset} on (refusal {number})")
+                writeln!(
+                    self.out,
+                    "text   not well formed from offset {offset} on (refusal {number})"
+                )
             }
         }
     }
@@ -50,7 +53,13 @@ impl<W: Write> Page<W> {
         writeln!(self.out, "\nrow {number:>4}  {start:>8}..{end}")
     }
 
-    pub fn field<S: AnyStr>(&mut self, number: usize, start: usize, end: usize, content: &S) -> io::Result<()> {
+    pub fn field<S: AnyStr>(
+        &mut self,
+        number: usize,
+        start: usize,
+        end: usize,
+        content: &S,
+    ) -> io::Result<()> {
         self.content.clear();
         add_text(&mut self.content, content)?;
         write!(self.out, "    {number:>4}  {start:>8}..{end:<8}  \"")?;
@@ -58,15 +67,17 @@ impl<W: Write> Page<W> {
         self.out.write_all(b"\"\n")
     }
 
+    fn count(&mut self, name: &str, count: usize) -> io::Result<()> {
+        writeln!(self.out, "{name:<12}  {count:>8}")
+    }
+
     pub fn counts(&mut self, tally: &Tally, tabs: usize, blanks: usize) -> io::Result<()> {
-        let rows = tally.rows;
-        let fields = tally.fields;
-        let empty = tally.empty;
-        writeln!(self.out, "\nrows          {rows:>8}")?;
-        writeln!(self.out, "fields        {fields:>8}")?;
-        writeln!(self.out, "empty fields  {empty:>8}")?;
-        writeln!(self.out, "tabs          {tabs:>8}")?;
-        writeln!(self.out, "blanks        {blanks:>8}")
+        self.out.write_all(b"\n")?;
+        self.count("rows", tally.rows)?;
+        self.count("fields", tally.fields)?;
+        self.count("empty fields", tally.empty)?;
+        self.count("tabs", tabs)?;
+        self.count("blanks", blanks)
     }
 
     // Everything is written out.

@@ -16,7 +16,13 @@ use std::io;
 use std::io::Write;
 
 // Shows the fields of a row that begins at the sheet's offset `base`.
-fn show_fields<W: Write, S: AsciiStr>(page: &mut Page<W>, row: S, comma: Substring<S>, base: usize, tally: &mut Tally) -> io::Result<()>
+fn show_fields<W: Write, S: AsciiStr>(
+    page: &mut Page<W>,
+    row: S,
+    comma: Substring<S>,
+    base: usize,
+    tally: &mut Tally,
+) -> io::Result<()>
     requires { ⌜ base ≤ most-bytes ⌝ }
 {
     let mut number: usize = 0;
@@ -39,7 +45,11 @@ fn show_fields<W: Write, S: AsciiStr>(page: &mut Page<W>, row: S, comma: Substri
 }
 
 // Shows the rows; behind the last line end there is none.
-fn show_rows<W: Write, S: AsciiStr>(page: &mut Page<W>, sheet: S, comma: Substring<S>) -> io::Result<Tally> {
+fn show_rows<W: Write, S: AsciiStr>(
+    page: &mut Page<W>,
+    sheet: S,
+    comma: Substring<S>,
+) -> io::Result<Tally> {
     let len = sheet.bytes_len();
     let mut tally = Tally {
         rows: 0,
@@ -62,7 +72,12 @@ fn show_rows<W: Write, S: AsciiStr>(page: &mut Page<W>, sheet: S, comma: Substri
 }
 
 // Shows a sheet whose fields are separated by `comma`, with what its check said.
-pub fn show_sheet<W: Write, S: AsciiStr>(page: &mut Page<W>, sheet: S, comma: S, checked: Result<(), Refusal>) -> io::Result<()> {
+pub fn show_sheet<W: Write, S: AsciiStr>(
+    page: &mut Page<W>,
+    sheet: S,
+    comma: S,
+    checked: Result<(), Refusal>,
+) -> io::Result<()> {
     page.head(&sheet, checked)?;
     let tally = show_rows(page, sheet, Substring::new(comma))?;
     page.counts(&tally, count_of(&sheet, b"\t"), count_of(&sheet, b" "))?;

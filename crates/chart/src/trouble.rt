@@ -18,7 +18,10 @@ pub impl fmt::Display for Trouble as TroubleDisplay {
             Trouble::Unwritable(e) => write!(f, "the standard output cannot be written: {e}"),
             Trouble::TooLong(refusal) => {
                 let (number, _) = refusal.code();
-                write!(f, "refused ({number}): the sheet has more than {MAX_BYTES} bytes")
+                write!(
+                    f,
+                    "refused ({number}): the sheet has more than {MAX_BYTES} bytes"
+                )
             }
         }
     }
