@@ -1,8 +1,5 @@
 // Reads a harbour's chart index from the standard input, and shows its rows and fields.
-mod counts;
-mod escapes;
 mod page;
-mod pieces;
 mod sheet;
 mod trouble;
 

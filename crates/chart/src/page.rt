@@ -1,7 +1,7 @@
 // The layout of a sheet that is shown, line by line.
-use super::escapes::add_text;
 use anystr::anystr::AnyStr;
 use anystr::refusal::Refusal;
+use sheets::escapes::add_text;
 use std::alloc::Global;
 use std::io;
 use std::io::Write;

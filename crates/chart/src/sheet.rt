@@ -1,19 +1,21 @@
-// A sheet, gone through row by row and field by field. One text for every kind of text.
-ghost use Prim.Native.Nat.{_≤_};
-ghost use Rattle.anystr.specs.Limits.{most-bytes};
-use super::counts::count_of;
+// A sheet, cut into rows and fields. One text for every kind of text.
 use super::page::Page;
 use super::page::Tally;
-use super::pieces::piece_from;
 use anystr::anystr::AnyStr;
 use anystr::refusal::Refusal;
+use cutters::cutter::Cutter;
 use searchers::ascii::AsciiStr;
+use searchers::asciiset::AsciiSet;
 use searchers::lineends::LineEnds;
 use searchers::lineends::LineEndsSearcher;
 use searchers::substring::Substring;
 use searchers::substring::SubstringSearcher;
+use sheets::counts::count_in;
 use std::io;
 use std::io::Write;
+
+// A cutter with this bound cuts at every mark.
+const NO_BOUND: i64 = -1;
 
 // Shows the fields of a row that begins at the sheet's offset `base`.
 fn show_fields<W: Write, S: AsciiStr>(
@@ -22,29 +24,27 @@ fn show_fields<W: Write, S: AsciiStr>(
     comma: Substring<S>,
     base: usize,
     tally: &mut Tally,
-) -> io::Result<()>
-    requires { ⌜ base ≤ most-bytes ⌝ }
-{
+) -> io::Result<()> {
     let mut number: usize = 0;
-    let mut place = 0;
-    loop {
-        let field = piece_from(&row, &comma, place);
+    let mut fields = Cutter::open(row, comma, NO_BOUND);
+    while let Some(field) = fields.next() {
         number = number.saturating_add(1);
         if field.start == field.end {
             tally.empty = tally.empty.saturating_add(1);
         }
         let content = row.get_bytes(field.start, field.end);
-        page.field(number, base + field.start, base + field.end, &content)?;
-        match field.next {
-            Some(next) => place = next,
-            None => break,
-        }
+        page.field(
+            number,
+            base.saturating_add(field.start),
+            base.saturating_add(field.end),
+            &content,
+        )?;
     }
     tally.fields = tally.fields.saturating_add(number);
     Ok(())
 }
 
-// Shows the rows; behind the last line end there is none.
+// Shows the rows; an empty one behind the last line end is none.
 fn show_rows<W: Write, S: AsciiStr>(
     page: &mut Page<W>,
     sheet: S,
@@ -56,17 +56,15 @@ fn show_rows<W: Write, S: AsciiStr>(
         fields: 0,
         empty: 0,
     };
-    let mut place = 0;
-    while place < len {
-        let row = piece_from(&sheet, &LineEnds, place);
+    let mut rows = Cutter::open(sheet, LineEnds, NO_BOUND);
+    while let Some(row) = rows.next() {
+        if row.start == len {
+            break;
+        }
         tally.rows = tally.rows.saturating_add(1);
         page.row(tally.rows, row.start, row.end)?;
         let text = sheet.get_bytes(row.start, row.end);
         show_fields(page, text, comma, row.start, &mut tally)?;
-        place = match row.next {
-            Some(next) => next,
-            None => len,
-        };
     }
     Ok(tally)
 }
@@ -80,6 +78,8 @@ pub fn show_sheet<W: Write, S: AsciiStr>(
 ) -> io::Result<()> {
     page.head(&sheet, checked)?;
     let tally = show_rows(page, sheet, Substring::new(comma))?;
-    page.counts(&tally, count_of(&sheet, b"\t"), count_of(&sheet, b" "))?;
+    let tabs = count_in(&sheet, &AsciiSet::new(b"\t"));
+    let blanks = count_in(&sheet, &AsciiSet::new(b" "));
+    page.counts(&tally, tabs, blanks)?;
     page.finish()
 }

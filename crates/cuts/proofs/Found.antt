@@ -44,9 +44,9 @@ module _ (sheet : Sheet) (law : Lawful (sheet .marks) (size sheet)) (made place 
 
   pub none-found : NoneFrom (sheet .marks) place → cut-from sheet made place ≡ []
   none-found none = ⊎-elim
-    (λ past. listed-past (sheet .marks) (sheet .bound) made place 0 (size sheet) (omega arith))
-    (λ within. greedy-one (sheet .bound) law made place _ [] (greedy-cuts (sheet .bound) law made place within) (within, λ few b d is from lt. none b d from is))
-    (cases-lt (size sheet) place)
+      (λ past. listed-past (sheet .marks) (sheet .bound) made place 0 (size sheet) (omega arith))
+      (λ within. greedy-one (sheet .bound) law made place _ [] (greedy-cuts (sheet .bound) law made place within) (within, λ few b d is from lt. none b d from is))
+      (cases-lt (size sheet) place)
 
   pub used-up : fewer made (sheet .bound) ≡ false → cut-from sheet made place ≡ []
   used-up used = none-cut (sheet .bound) made place _ used

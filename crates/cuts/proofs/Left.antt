@@ -35,8 +35,8 @@ nexts-more sheet (suc n) s = nexts-more sheet n (next-of sheet s .1)
 module _ (sheet : Sheet) (law : Lawful (sheet .marks) (size sheet)) where
   pub first : (made place : ℕ) (m : Span) (ms : List Span) → cut-from sheet made place ≡ m ∷ ms → First sheet made place m ms
   first made place m ms e = ⊎-elim
-    (λ past. let none = listed-past (sheet .marks) (sheet .bound) made place 0 (size sheet) (omega arith) in let z = ap length (sym none ∙ e) in absurd (omega arith))
-    (λ within.
+      (λ past. let none = listed-past (sheet .marks) (sheet .bound) made place 0 (size sheet) (omega arith) in let z = ap length (sym none ∙ e) in absurd (omega arith))
+      (λ within.
       let g : Greedy (sheet .marks) (sheet .bound) made place (m ∷ ms) (size sheet) = rw e at (greedy-cuts (sheet .bound) law made place within) in
       let inside = law .within _ _ (g .0 .is) in
       record {
@@ -45,7 +45,7 @@ module _ (sheet : Sheet) (law : Lawful (sheet .marks) (size sheet)) where
         within = inside;
         others = greedy-one (sheet .bound) law (suc made) (m .1) _ ms (greedy-cuts (sheet .bound) law (suc made) (m .1) inside) (g .2);
       })
-    (cases-lt (size sheet) place)
+      (cases-lt (size sheet) place)
 
 -- a next that gives none leaves a spent cutter as it is
 pub next-none : (sheet : Sheet) (place made : ℕ) (spent : Bool) → None ≡ next-of sheet (at place made spent) .0 → spent ≡ true

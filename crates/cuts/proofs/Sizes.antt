@@ -35,16 +35,16 @@ module _ (sheet : Sheet) (law : Lawful (sheet .marks) (size sheet)) where
   -- the bytes of a pour fit 64 bits
   pub poured-fits : (to : List ℕ) (made place : ℕ) → size sheet ≤ most-bytes → length to ≤ most-bytes → length (poured (sheet .bytes) to place (cut-from sheet made place)) < 2 ^ 64
   poured-fits to made place few short = ⊎-elim
-    (λ past.
+      (λ past.
       let none = listed-past (sheet .marks) (sheet .bound) made place 0 (size sheet) (omega arith) in
       omega (arith, ap (λ (ms : List Span). length (poured (sheet .bytes) to place ms)) none, length-drop place (sheet .bytes)))
-    (λ within.
+      (λ within.
       let ms = cut-from sheet made place in
       let all = cuts-within ms made place within refl in
       let some : length ms ≤ most-bytes = omega arith in
       let times : length ms * length to ≤ most-bytes * most-bytes = mul-le-mul {n₂ = most-bytes} {m₂ = most-bytes} some short in
       omega (arith, poured-within to ms made place within refl))
-    (cases-lt (size sheet) place)
+      (cases-lt (size sheet) place)
 
   -- the bytes of a pour up to the first cut, and those after it
   pub poured-cut : (to : List ℕ) (made place a e : ℕ) → cut-from sheet made place ≡ (a, e) ∷ cut-from sheet (suc made) e

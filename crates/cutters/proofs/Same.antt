@@ -1,12 +1,15 @@
 -- A cutter keeps what it was opened on.
-use Prim.Native.Nat.{ℕ}
-use mathlib.Core.Path.{_≡_, subst, _∙_}
+use Prim.Native.Nat.{ℕ, _<_}
+use mathlib.Core.Path.{_≡_, ap, subst, _∙_}
 use mathlib.Core.List.{List}
+use native.Mathlib.Omega.{arith}
+use lib.ListN.{length}
 use Rattle.std.specs.Written.{joined}
 use Rattle.std.specs.declared.option.Option.the-variants.{Some}
-use Rattle.searchers.specs.Marks.{Marks, Span}
-use Rattle.cuts.specs.Cuts.{Sheet}
+use Rattle.searchers.specs.Marks.{Marks, Span, Lawful}
+use Rattle.cuts.specs.Cuts.{Sheet, pieces-left}
 use Rattle.cuts.specs.Runs.{Step, next}
+use Rattle.cuts.proofs.Left.{gave}
 use Rattle.cutters.specs.Calls.{sheet, state, SameSheet}
 use Rattle.cutters.specs.declared.cutter.Cutter.{Cutter}
 
@@ -21,3 +24,11 @@ module _ {S F C : Type 0} where
   pub step-on : (marks : F → List (List ℕ) → Marks) (elements : S → List (List ℕ)) (c d e : Cutter S F C) (p : Span) → SameSheet c d
       → Step (sheet marks elements d) (state d) (next (Some p)) (state e) → Step (sheet marks elements c) (state d) (next (Some p)) (state e)
   step-on marks elements c d e p q h = subst (λ (o : Sheet). Step o (state d) (next (Some p)) (state e)) (same-sheet marks elements c d q) h
+
+  -- a next that gives a piece leaves one fewer: a loop over the pieces ends
+  pub lessens : (marks : F → List (List ℕ) → Marks) (elements : S → List (List ℕ)) → ((f : F) (es : List (List ℕ)) → Lawful (marks f es) (length (joined es))) → (c d : Cutter S F C) (p : Span)
+      → SameSheet c d → Step (sheet marks elements c) (state c) (next (Some p)) (state d)
+      → length (pieces-left (sheet marks elements d) (state d)) < length (pieces-left (sheet marks elements c) (state c))
+  lessens marks elements law c d p q h =
+      let one = gave (sheet marks elements c) (law (c .searcher) (elements (c .text))) (c .place) (c .made) (c .spent) p (state d) h .left in
+      omega (arith, ap (λ (o : Sheet). length (pieces-left o (state d))) (same-sheet marks elements c d q))

@@ -11,15 +11,13 @@ use Rattle.std.proofs.shelf.Tests.{cases-lt}
 use Rattle.anystr.specs.Limits.{most-bytes}
 use Rattle.anystr.specs.OfBytes.{singles, joined-singles}
 
-
-
 pub stretch-short : (bs : List ℕ) (a e m : ℕ) → m ≡ min e (length bs) → take (m - a) (drop a bs) ≡ take (e - a) (drop a bs)
 stretch-short bs a e m h = ⊎-elim
-  (λ lt.
+    (λ lt.
     let z : m ≡ length bs = omega arith in
     ap (λ n. take (n - a) (drop a bs)) z ∙ (take-rest bs a ∙ sym (take-all (e - a) (drop a bs) (omega (arith, length-drop a bs)))))
-  (λ le. let z : m ≡ e = omega arith in ap (λ n. take (n - a) (drop a bs)) z)
-  (cases-lt (length bs) e)
+    (λ le. let z : m ≡ e = omega arith in ap (λ n. take (n - a) (drop a bs)) z)
+    (cases-lt (length bs) e)
 
 pub stretch-none : (bs : List ℕ) (a e m : ℕ) → m ≡ min e (length bs) → m ≤ a → [] ≡ take (e - a) (drop a bs)
 stretch-none bs a e m h le = sym (nil-from-length _ (omega (arith, length-take (e - a) (drop a bs), length-drop a bs)))

@@ -1,3 +1,3 @@
 // Cutters: texts cut at marks, piece by piece.
-pub mod piece;
 pub mod cutter;
+pub mod piece;

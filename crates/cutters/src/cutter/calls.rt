@@ -51,7 +51,14 @@ impl<S: AnyStr, F: Searcher<S>> Cutter<S, F> {
         ensures law { λ r. ⌜ RunsLaw (sheet (F·Searcher .marks) (S·AnyStr .elements) r) ⌝ }
         ensures cut { λ r. ⌜ Placed (S·AnyStr .elements) r ⌝ }
     {
-        Cutter { text, searcher, bound, place: 0, made: 0, spent: false }
+        Cutter {
+            text,
+            searcher,
+            bound,
+            place: 0,
+            made: 0,
+            spent: false,
+        }
     }
 
     // The rest: the text from the place on.
@@ -59,7 +66,10 @@ impl<S: AnyStr, F: Searcher<S>> Cutter<S, F> {
         ensures step { λ r. ⌜ Rests (sheet (F·Searcher .marks) (S·AnyStr .elements) (now (self .entry))) (state (now (self .entry))) r ⌝ }
         ensures cut { λ r. ⌜ (Placed (S·AnyStr .elements) (now (self .entry)) → PieceOn (S·AnyStr .elements (now (self .entry) .text)) (Some r)) ⌝ }
     {
-        Piece { start: self.place, end: self.text.bytes_len() }
+        Piece {
+            start: self.place,
+            end: self.text.bytes_len(),
+        }
     }
 
     // The whole rest, as the last piece.
@@ -93,7 +103,10 @@ impl<S: AnyStr, F: Searcher<S>> Cutter<S, F> {
         };
         self.place = mark.end;
         self.made += 1;
-        Some(Piece { start: place, end: mark.start })
+        Some(Piece {
+            start: place,
+            end: mark.start,
+        })
     }
     // Passes over `n` pieces; refused, with the number of pieces left, where these are fewer.
     pub fn skip(&mut self, n: u64) -> Result<(), Refusal>

@@ -10,8 +10,8 @@ use Rattle.cutters.proofs.cutter.Cutter.measure.Needs as need
 
 turned : (g : given.Over) (c : need.After-struct-known·1 g)
     → Turn (sheet (g .F·Searcher .marks) (g .S·AnyStr .elements) (c .args .self .now)) (joined (g .S·AnyStr .elements (c .args .to .now))) (c .loop-mark .made) (c .loop-mark .place)
-        (c .in-Some .mark .start) (c .in-Some .mark .end) (c .loop-mark .sum)
-        (bytes-from (sheet (g .F·Searcher .marks) (g .S·AnyStr .elements) (c .args .self .now)) (joined (g .S·AnyStr .elements (c .args .to .now))) (c .args .self .now .made) (c .args .self .now .place))
+    (c .in-Some .mark .start) (c .in-Some .mark .end) (c .loop-mark .sum)
+    (bytes-from (sheet (g .F·Searcher .marks) (g .S·AnyStr .elements) (c .args .self .now)) (joined (g .S·AnyStr .elements (c .args .to .now))) (c .args .self .now .made) (c .args .self .now .place))
 turned g c =
     let k = c .args .self .now in
     turn (sheet (g .F·Searcher .marks) (g .S·AnyStr .elements) k) (g .F·Searcher .lawful (k .searcher) (g .S·AnyStr .elements (k .text))) _ _ _ _ _ _ (k .made) (k .place)
@@ -37,7 +37,7 @@ loop-mark-again g c = (omega (arith, turned g c .again, c .bytes-len-gap .ensure
 
 total : (g : given.Over) (c : need.After-saturating-sub g)
     → c .loop-mark .sum + c .saturating-sub .result
-        ≡ bytes-from (sheet (g .F·Searcher .marks) (g .S·AnyStr .elements) (c .args .self .now)) (joined (g .S·AnyStr .elements (c .args .to .now))) (c .args .self .now .made) (c .args .self .now .place)
+    ≡ bytes-from (sheet (g .F·Searcher .marks) (g .S·AnyStr .elements) (c .args .self .now)) (joined (g .S·AnyStr .elements (c .args .to .now))) (c .args .self .now .made) (c .args .self .now .place)
 total g c = omega (arith, ended (sheet (g .F·Searcher .marks) (g .S·AnyStr .elements) (c .args .self .now)) (joined (g .S·AnyStr .elements (c .args .to .now))) _ _ _ _ (c .in-rest .ensures tt) (c .loop-mark .inv .0), c .saturating-sub .ensures, c .bytes-len .ensures)
 
 pub add-result : need.add-result

@@ -10,7 +10,7 @@ use Rattle.cutters.proofs.cutter.Cutter.measure.Given as given
 abbrev pub Inv-loop-mark : given.InvT-loop-mark
 Inv-loop-mark g l =
     (l .sum + length (poured (joined (g .S·AnyStr .elements (l .self .text))) (joined (g .S·AnyStr .elements (l .to))) (l .place) (cut-from (sheet (g .F·Searcher .marks) (g .S·AnyStr .elements) (l .self)) (l .made) (l .place)))
-      ≡ length (poured (joined (g .S·AnyStr .elements (l .self .text))) (joined (g .S·AnyStr .elements (l .to))) (l .self .place) (cut-from (sheet (g .F·Searcher .marks) (g .S·AnyStr .elements) (l .self)) (l .self .made) (l .self .place))))
+    ≡ length (poured (joined (g .S·AnyStr .elements (l .self .text))) (joined (g .S·AnyStr .elements (l .to))) (l .self .place) (cut-from (sheet (g .F·Searcher .marks) (g .S·AnyStr .elements) (l .self)) (l .self .made) (l .self .place))))
     × (l .made ≤ l .place)
 
 abbrev pub μ-loop-mark : given.MeasureT-loop-mark

@@ -67,11 +67,12 @@ loop-piece-again-then-not-self g c =
     let st = step-on marks elements k here after p (c .loop-piece .inv .3) (c .in-Some .ensures tt .step) in
     let bytes = joined (singles (c .new .result .bytes .now)) in
     let is = piece-bytes _ (c .stretch .result .now) (c .as-bytes-bytes .result .now) (joined (elements (k .text))) (p .0) (p .1) (c .stretch .ensures) (c .as-bytes-bytes .ensures) (g .S·AnyStr .few (k .text)) (c .new .ensures .given) in
-    let one = gave on law (here .place) (here .made) (here .spent) p (state after) st in
-    (gap-poured on law (joined (elements (c .args .to .now))) (state here) (state after) p st _ _ _ _ _ (c .loop-piece .inv .0) bytes is (g .T·AnyStrContainer .held (c .append .last .tray)) (g .T·AnyStrContainer .spare (c .append .last .tray)) (c .append .ensures .held) (c .append .ensures .spare) (c .if-not-self .taken) _ _ (c .append-then-not-self .ensures .held) (c .append-then-not-self .ensures .spare),
-     sym (one .made-all) ∙ c .loop-piece .inv .1,
-     one .ended,
-     same-again k here after (c .loop-piece .inv .3) (c .in-Some .ensures tt .same))
+    let one = gave on law (here .place) (here .made) (here .spent) p (state after) st in (
+      gap-poured on law (joined (elements (c .args .to .now))) (state here) (state after) p st _ _ _ _ _ (c .loop-piece .inv .0) bytes is (g .T·AnyStrContainer .held (c .append .last .tray)) (g .T·AnyStrContainer .spare (c .append .last .tray)) (c .append .ensures .held) (c .append .ensures .spare) (c .if-not-self .taken) _ _ (c .append-then-not-self .ensures .held) (c .append-then-not-self .ensures .spare),
+      sym (one .made-all) ∙ c .loop-piece .inv .1,
+      one .ended,
+      same-again k here after (c .loop-piece .inv .3) (c .in-Some .ensures tt .same),
+    )
 
 pub loop-piece-again : need.loop-piece-again
 loop-piece-again g c =
@@ -86,8 +87,9 @@ loop-piece-again g c =
     let st = step-on marks elements k here after p (c .loop-piece .inv .3) (c .in-Some .ensures tt .step) in
     let bytes = joined (singles (c .new .result .bytes .now)) in
     let is = piece-bytes _ (c .stretch .result .now) (c .as-bytes-bytes .result .now) (joined (elements (k .text))) (p .0) (p .1) (c .stretch .ensures) (c .as-bytes-bytes .ensures) (g .S·AnyStr .few (k .text)) (c .new .ensures .given) in
-    let one = gave on law (here .place) (here .made) (here .spent) p (state after) st in
-    (last-poured on law (joined (elements (c .args .to .now))) (state here) (state after) p st _ _ _ _ _ (c .loop-piece .inv .0) bytes is (g .T·AnyStrContainer .held (c .append .last .tray)) (g .T·AnyStrContainer .spare (c .append .last .tray)) (c .append .ensures .held) (c .append .ensures .spare) (c .if-not-self .left),
-     sym (one .made-all) ∙ c .loop-piece .inv .1,
-     one .ended,
-     same-again k here after (c .loop-piece .inv .3) (c .in-Some .ensures tt .same))
+    let one = gave on law (here .place) (here .made) (here .spent) p (state after) st in (
+      last-poured on law (joined (elements (c .args .to .now))) (state here) (state after) p st _ _ _ _ _ (c .loop-piece .inv .0) bytes is (g .T·AnyStrContainer .held (c .append .last .tray)) (g .T·AnyStrContainer .spare (c .append .last .tray)) (c .append .ensures .held) (c .append .ensures .spare) (c .if-not-self .left),
+      sym (one .made-all) ∙ c .loop-piece .inv .1,
+      one .ended,
+      same-again k here after (c .loop-piece .inv .3) (c .in-Some .ensures tt .same),
+    )

@@ -14,12 +14,12 @@ use Rattle.cutters.proofs.cutter.Cutter.pour_pieces.Given as given
 abbrev pub Inv-loop-piece : given.InvT-loop-piece
 Inv-loop-piece g l =
     Pouring (g .T·AnyStrContainer .held (l .tray)) (g .T·AnyStrContainer .spare (l .tray))
-      (to-pour (sheet (g .F·Searcher .marks) (g .S·AnyStr .elements) (l .entry .self)) (joined (g .S·AnyStr .elements (l .to))) (state (l .self)))
-      (g .T·AnyStrContainer .held (l .entry .tray) ++ to-pour (sheet (g .F·Searcher .marks) (g .S·AnyStr .elements) (l .entry .self)) (joined (g .S·AnyStr .elements (l .to))) (state (l .entry .self)))
-      (g .T·AnyStrContainer .spare (l .entry .tray))
-      (length (to-pour (sheet (g .F·Searcher .marks) (g .S·AnyStr .elements) (l .entry .self)) (joined (g .S·AnyStr .elements (l .to))) (state (l .entry .self))))
+    (to-pour (sheet (g .F·Searcher .marks) (g .S·AnyStr .elements) (l .entry .self)) (joined (g .S·AnyStr .elements (l .to))) (state (l .self)))
+    (g .T·AnyStrContainer .held (l .entry .tray) ++ to-pour (sheet (g .F·Searcher .marks) (g .S·AnyStr .elements) (l .entry .self)) (joined (g .S·AnyStr .elements (l .to))) (state (l .entry .self)))
+    (g .T·AnyStrContainer .spare (l .entry .tray))
+    (length (to-pour (sheet (g .F·Searcher .marks) (g .S·AnyStr .elements) (l .entry .self)) (joined (g .S·AnyStr .elements (l .to))) (state (l .entry .self))))
     × (l .self .made + length (to-cut (sheet (g .F·Searcher .marks) (g .S·AnyStr .elements) (l .entry .self)) (state (l .self)))
-        ≡ l .entry .self .made + length (to-cut (sheet (g .F·Searcher .marks) (g .S·AnyStr .elements) (l .entry .self)) (state (l .entry .self))))
+    ≡ l .entry .self .made + length (to-cut (sheet (g .F·Searcher .marks) (g .S·AnyStr .elements) (l .entry .self)) (state (l .entry .self))))
     × (l .self .spent ≡ true → l .self .place ≡ size (sheet (g .F·Searcher .marks) (g .S·AnyStr .elements) (l .entry .self)))
     × SameSheet (l .entry .self) (l .self)
 

@@ -19,8 +19,9 @@ loop-done-again g c =
     let law = g .F·Searcher .lawful (k .searcher) (g .S·AnyStr .elements (k .text)) in
     let e = c .in-Some .ensures tt in
     let st = step-on (g .F·Searcher .marks) (g .S·AnyStr .elements) k here after (span (c .in-Some .field-0)) (inv .2) (e .step) in
-    let one = gave on law (here .place) (here .made) (here .spent) _ (state after) st .left in
-    (st .1 ∙ ((λ i. next-of on (inv .0 i) .1) ∙ (sym (nexts-more on n (state k)) ∙ (λ i. nexts on (sym (add-one n) i) (state k)))),
-     omega (arith, inv .1),
-     same-again k here after (inv .2) (e .same),
-     λ b. e .cut (inv .3 b) .1)
+    let one = gave on law (here .place) (here .made) (here .spent) _ (state after) st .left in (
+      st .1 ∙ ((λ i. next-of on (inv .0 i) .1) ∙ (sym (nexts-more on n (state k)) ∙ (λ i. nexts on (sym (add-one n) i) (state k)))),
+      omega (arith, inv .1),
+      same-again k here after (inv .2) (e .same),
+      λ b. e .cut (inv .3 b) .1,
+    )

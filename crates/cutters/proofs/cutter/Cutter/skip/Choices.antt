@@ -10,6 +10,6 @@ abbrev pub Inv-loop-done : given.InvT-loop-done
 Inv-loop-done g l =
     (state (l .self) ≡ nexts (sheet (g .F·Searcher .marks) (g .S·AnyStr .elements) (l .entry .self)) (l .done) (state (l .entry .self)))
     × (l .done + length (pieces-left (sheet (g .F·Searcher .marks) (g .S·AnyStr .elements) (l .entry .self)) (state (l .self)))
-        ≡ length (pieces-left (sheet (g .F·Searcher .marks) (g .S·AnyStr .elements) (l .entry .self)) (state (l .entry .self))))
+    ≡ length (pieces-left (sheet (g .F·Searcher .marks) (g .S·AnyStr .elements) (l .entry .self)) (state (l .entry .self))))
     × SameSheet (l .entry .self) (l .self)
     × (Placed (g .S·AnyStr .elements) (l .entry .self) → Placed (g .S·AnyStr .elements) (l .self))

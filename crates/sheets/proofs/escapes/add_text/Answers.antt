@@ -4,9 +4,9 @@ use mathlib.Core.List.{_++_}
 use native.Mathlib.Omega.{arith}
 use lib.ListN.{length}
 use Rattle.std.specs.Of.Vec.{vec-items}
-use Rattle.chart.specs.Shown.{shown}
-use Rattle.chart.proofs.Walks.{element-stands, walk-over, shown-more, cut-is}
-use Rattle.chart.proofs.escapes.add_text.Needs as need
+use Rattle.sheets.specs.Shown.{shown}
+use Rattle.sheets.proofs.Walks.{element-stands, walk-over, shown-more, cut-is}
+use Rattle.sheets.proofs.escapes.add_text.Needs as need
 
 pub add-end : need.add-end
 add-end g c =

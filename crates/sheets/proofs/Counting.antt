@@ -12,7 +12,7 @@ use Rattle.std.proofs.shelf.Tests.{cond-true, cond-false, cases-bool, and-from,
 use Rattle.searchers.specs.Marks.{Least, NoneFrom}
 use Rattle.searchers.specs.Sets.{single, single-is}
 use Rattle.searchers.specs.Truth.{truth}
-use Rattle.chart.specs.Counts.{counted}
+use Rattle.sheets.specs.Counts.{counted}
 
 -- no byte of the set stands between two offsets
 abbrev pub Free : (ℕ → Bool) → List ℕ → ℕ → ℕ → Type 0
@@ -49,8 +49,3 @@ to-end set bs from le none =
     let n : ℕ = length bs - from in
     let free : Free set bs from (from + n) = λ k ge lt. ⊎-elim (λ t. absurd (none k (suc k) ge (marked set bs k (omega arith) t))) (λ f. f) (cases-bool (set (getD bs k 0))) in
     past-free set bs n from (omega arith) free ∙ at-drop-all (counted set) bs (from + n) (omega arith)
-
--- sets with the same bytes count alike
-pub alike : (f g : ℕ → Bool) (bs : List ℕ) → ((b : ℕ) → f b ≡ g b) → counted f bs ≡ counted g bs
-alike f g [] same = refl
-alike f g (b ∷ bs) same = ap (λ t. cond t (suc (counted f bs)) (counted f bs)) (same b) ∙ ap (λ n. cond (g b) (suc n) n) (alike f g bs same)

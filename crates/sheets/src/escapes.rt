@@ -4,7 +4,7 @@ ghost use mathlib.Core.List.{_++_};
 ghost use Prim.Native.Nat.{_<_};
 ghost use Rattle.std.specs.Of.Vec.{vec-items};
 ghost use Rattle.std.specs.Vec.{made};
-ghost use Rattle.chart.specs.Shown.{hex, shown-byte, shown-element, shown};
+ghost use Rattle.sheets.specs.Shown.{hex, shown-byte, shown-element, shown};
 use anystr::anystr::AnyStr;
 use std::alloc::AllocError;
 

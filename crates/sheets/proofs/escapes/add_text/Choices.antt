@@ -5,8 +5,8 @@ use lib.ListN.{length, take}
 use Rattle.std.specs.Written.{joined}
 use Rattle.std.specs.Of.Vec.{vec-items}
 use Rattle.anystr.specs.Elements.{offset}
-use Rattle.chart.specs.Shown.{shown}
-use Rattle.chart.proofs.escapes.add_text.Given as given
+use Rattle.sheets.specs.Shown.{shown}
+use Rattle.sheets.proofs.escapes.add_text.Given as given
 
 -- some elements are shown, and the next begins at `start`
 abbrev pub Inv-loop-len : given.InvT-loop-len

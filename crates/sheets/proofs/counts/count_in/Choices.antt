@@ -3,8 +3,8 @@ use mathlib.Core.Path.{_≡_}
 use lib.ListN.{length, drop}
 use Rattle.std.specs.Written.{joined}
 use Rattle.searchers.specs.Sets.{member}
-use Rattle.chart.specs.Counts.{counted}
-use Rattle.chart.proofs.counts.count_in.Given as given
+use Rattle.sheets.specs.Counts.{counted}
+use Rattle.sheets.proofs.counts.count_in.Given as given
 
 -- what is counted and what is left make up the whole
 abbrev pub Inv-loop-mark : given.InvT-loop-mark

@@ -12,7 +12,7 @@ use Rattle.std.proofs.shelf.Tests.{cond-true, cond-false, le-leb, ne-eqb, cases
 use Rattle.anystr.specs.Elements.{offset, element-at, Filled}
 use Rattle.anystr.proofs.Begins.{begins}
 use Rattle.anystr.proofs.Parts.{joined-append}
-use Rattle.chart.specs.Shown.{shown, shown-element}
+use Rattle.sheets.specs.Shown.{shown, shown-element}
 
 pub shown-append : (xs ys : List (List ℕ)) → shown (xs ++ ys) ≡ shown xs ++ shown ys
 shown-append [] ys = refl

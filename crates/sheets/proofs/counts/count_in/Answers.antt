@@ -1,8 +1,8 @@
 use native.Mathlib.Omega.{arith}
 use Rattle.std.specs.Written.{joined}
 use Rattle.searchers.specs.Sets.{member, single-is}
-use Rattle.chart.proofs.Counting.{to-mark, to-end}
-use Rattle.chart.proofs.counts.count_in.Needs as need
+use Rattle.sheets.proofs.Counting.{to-mark, to-end}
+use Rattle.sheets.proofs.counts.count_in.Needs as need
 
 pub loop-mark-again : need.loop-mark-again
 loop-mark-again g c =
