@@ -4,3 +4,4 @@ pub mod Same
 pub mod Turns
 pub mod Stretches
 pub mod Pouring
+pub mod Telling
