@@ -1,4 +1,5 @@
 // Reads a harbour's chart index from the standard input, and shows its rows and fields.
+mod calls;
 mod page;
 mod sheet;
 mod trouble;
@@ -18,6 +19,9 @@ use trouble::TroubleDisplay;
 
 const COMMA: &[u8; 1] = b",";
 
+// What a label has in place of a comma.
+const GAP: &[u8; 2] = b"; ";
+
 // One byte more than a sheet may have tells that there are too many.
 const READ_AT_MOST: u64 = MAX_BYTES as u64 + 1;
 
@@ -34,8 +38,20 @@ fn show(rt: &LibcRuntime, bytes: &[u8]) -> io::Result<()> {
     let mut page = Page::new(BufWriter::new(rt.stdout()), rt.alloc());
     let checked = Text::check(bytes);
     match checked {
-        Ok(()) => show_sheet(&mut page, Text::new(bytes), Text::new(COMMA), checked),
-        Err(_) => show_sheet(&mut page, Bytes::new(bytes), Bytes::new(COMMA), checked),
+        Ok(()) => show_sheet(
+            &mut page,
+            Text::new(bytes),
+            Text::new(COMMA),
+            Text::new(GAP),
+            checked,
+        ),
+        Err(_) => show_sheet(
+            &mut page,
+            Bytes::new(bytes),
+            Bytes::new(COMMA),
+            Bytes::new(GAP),
+            checked,
+        ),
     }
 }
 

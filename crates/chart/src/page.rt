@@ -1,6 +1,12 @@
 // The layout of a sheet that is shown, line by line.
 use anystr::anystr::AnyStr;
+use anystr::bytes::Bytes;
+use anystr::bytes::BytesAnyStr;
 use anystr::refusal::Refusal;
+use anystr::text::Text;
+use anystr::text::TextAnyStr;
+use cutters::piece::Piece;
+use cutters::play::Answer;
 use sheets::escapes::add_text;
 use std::alloc::Global;
 use std::io;
@@ -20,6 +26,7 @@ pub struct Page<W: Write> {
     out: W,
     // the content of the field that is shown
     content: Vec<u8>,
+    pub heap: Global,
 }
 
 impl<W: Write> Page<W> {
@@ -27,6 +34,7 @@ impl<W: Write> Page<W> {
         Page {
             out,
             content: Vec::new(heap),
+            heap,
         }
     }
 
@@ -65,6 +73,45 @@ impl<W: Write> Page<W> {
         write!(self.out, "    {number:>4}  {start:>8}..{end:<8}  \"")?;
         self.out.write_all(self.content.as_slice())?;
         self.out.write_all(b"\"\n")
+    }
+
+    // Bytes as text where they are text, and else byte by byte.
+    fn quoted(&mut self, bytes: &[u8]) -> io::Result<()> {
+        self.content.clear();
+        match Text::check(bytes) {
+            Ok(()) => add_text(&mut self.content, &Text::new(bytes))?,
+            Err(_) => add_text(&mut self.content, &Bytes::new(bytes))?,
+        }
+        self.out.write_all(b"\"")?;
+        self.out.write_all(self.content.as_slice())?;
+        self.out.write_all(b"\"\n")
+    }
+
+    fn stretch(&mut self, base: usize, piece: Piece) -> io::Result<()> {
+        let start = base.saturating_add(piece.start);
+        let end = base.saturating_add(piece.end);
+        writeln!(self.out, "{start}..{end}")
+    }
+
+    // What a call on the row's cutter answered; offsets are told from the row's start, `base`, on.
+    pub fn answer(
+        &mut self,
+        call: &str,
+        answer: Answer,
+        base: usize,
+        label: &[u8],
+    ) -> io::Result<()> {
+        write!(self.out, "    {call:<8}")?;
+        match answer {
+            Answer::Piece(piece) | Answer::Rest(piece) => self.stretch(base, piece),
+            Answer::NoPiece => writeln!(self.out, "none"),
+            Answer::Skipped => writeln!(self.out, "ok"),
+            Answer::Poured => self.quoted(label),
+            Answer::Refused(refusal) => {
+                let (number, value) = refusal.code();
+                writeln!(self.out, "refused ({number}) with {value}")
+            }
+        }
     }
 
     fn count(&mut self, name: &str, count: usize) -> io::Result<()> {

@@ -1,4 +1,6 @@
 // A sheet, cut into rows and fields. One text for every kind of text.
+use super::calls::show_calls;
+use super::calls::show_label;
 use super::page::Page;
 use super::page::Tally;
 use anystr::anystr::AnyStr;
@@ -15,7 +17,7 @@ use std::io;
 use std::io::Write;
 
 // A cutter with this bound cuts at every mark.
-const NO_BOUND: i64 = -1;
+pub const NO_BOUND: i64 = -1;
 
 // Shows the fields of a row that begins at the sheet's offset `base`.
 fn show_fields<W: Write, S: AsciiStr>(
@@ -49,6 +51,7 @@ fn show_rows<W: Write, S: AsciiStr>(
     page: &mut Page<W>,
     sheet: S,
     comma: Substring<S>,
+    gap: S,
 ) -> io::Result<Tally> {
     let len = sheet.bytes_len();
     let mut tally = Tally {
@@ -65,19 +68,22 @@ fn show_rows<W: Write, S: AsciiStr>(
         page.row(tally.rows, row.start, row.end)?;
         let text = sheet.get_bytes(row.start, row.end);
         show_fields(page, text, comma, row.start, &mut tally)?;
+        show_calls(page, text, comma, gap, row.start)?;
+        show_label(page, text, comma, gap, row.start)?;
     }
     Ok(tally)
 }
 
-// Shows a sheet whose fields are separated by `comma`, with what its check said.
+// Shows a sheet whose fields are separated by `comma`, with what its check said; a label has `gap` in its place.
 pub fn show_sheet<W: Write, S: AsciiStr>(
     page: &mut Page<W>,
     sheet: S,
     comma: S,
+    gap: S,
     checked: Result<(), Refusal>,
 ) -> io::Result<()> {
     page.head(&sheet, checked)?;
-    let tally = show_rows(page, sheet, Substring::new(comma))?;
+    let tally = show_rows(page, sheet, Substring::new(comma), gap)?;
     let tabs = count_in(&sheet, &AsciiSet::new(b"\t"));
     let blanks = count_in(&sheet, &AsciiSet::new(b" "));
     page.counts(&tally, tabs, blanks)?;

@@ -1,4 +1,4 @@
 // Cutters: texts cut at marks, piece by piece.
 pub mod cutter;
-pub mod play;
 pub mod piece;
+pub mod play;

@@ -61,7 +61,14 @@ impl<S: AnyStr, F: Searcher<S>> Cutter<S, F> {
 
 // Opens a cutter, makes the calls in turn with the tray, and writes each answer. Refused, and nothing changes,
 // where there is no room for all the answers; entries past them are as they were.
-pub fn play<S: AnyStr, F: Searcher<S> + Drop, T: AnyStrContainer>(text: S, searcher: F, bound: i64, calls: &[Call<S>], tray: &mut T, answers: &mut [Answer]) -> Result<(), Refusal>
+pub fn play<S: AnyStr, F: Searcher<S> + Drop, T: AnyStrContainer>(
+    text: S,
+    searcher: F,
+    bound: i64,
+    calls: &[Call<S>],
+    tray: &mut T,
+    answers: &mut [Answer],
+) -> Result<(), Refusal>
     ensures { λ r. ⌜ Plays-out (S·AnyStr .elements) (opened-on (F·Searcher .marks searcher) (S·AnyStr .elements text) bound) (now (calls .entry)) (now (answers .entry)) (now (answers .exit)) (T·AnyStrContainer .held (now (tray .entry))) (T·AnyStrContainer .spare (now (tray .entry))) (T·AnyStrContainer .held (now (tray .exit))) (T·AnyStrContainer .spare (now (tray .exit))) r ⌝ }
 {
     let n = calls.len();

@@ -37,10 +37,11 @@ loop-i-again g c =
     let told = c .answer .ensures .step in
     let step : Step (sheet marks elements first) (state here) (told .0) (state after) = subst (λ (o : Sheet). Step o (state here) (told .0) (state after)) (same-sheet marks elements first here (inv .2)) (told .2) in
     let asked = take-more calls i call (omega arith) ∙ ap (λ x. take i calls ++ x ∷ []) (sym (c .index-calls-i .is)) in
-    let written = take-more-set answers i (c .answer .result) (omega (arith, c .loop-i .kept .answers)) in
-    ((told .0 ∷ inv .0 .0, runs.more (inv .0 .1) step, plays-at asked written (plays.more (inv .0 .2) (told .1))),
-     drop-set-lt _ answers i (c .answer .result) (omega arith) ∙ (sym (drop-drop 1 i answers) ∙ (ap (drop 1) (inv .1) ∙ drop-drop 1 i (c .args .answers .now))),
-     same-again first here after (inv .2) (c .answer .ensures .same))
+    let written = take-more-set answers i (c .answer .result) (omega (arith, c .loop-i .kept .answers)) in (
+      (told .0 ∷ inv .0 .0, runs.more (inv .0 .1) step, plays-at asked written (plays.more (inv .0 .2) (told .1))),
+      drop-set-lt _ answers i (c .answer .result) (omega arith) ∙ (sym (drop-drop 1 i answers) ∙ (ap (drop 1) (inv .1) ∙ drop-drop 1 i (c .args .answers .now))),
+      same-again first here after (inv .2) (c .answer .ensures .same),
+    )
 
 pub returns : need.returns
 returns g c =
@@ -53,10 +54,11 @@ returns g c =
     let ens = c .open-cutter .ensures in
     let bound : first .bound ≡ c .args .bound = ens .on .2 ∙ toZ-ofZ w64 (c .args .bound) (c .fits .bound) in
     let same : on ≡ opened-on (g .F·Searcher .marks (c .args .searcher)) (g .S·AnyStr .elements (c .args .text)) (c .args .bound) =
-        λ i. record { marks = g .F·Searcher .marks (ens .on .1 i) (g .S·AnyStr .elements (ens .on .0 i)); bytes = joined (g .S·AnyStr .elements (ens .on .0 i)); bound = bound i } in
+    λ i. record { marks = g .F·Searcher .marks (ens .on .1 i) (g .S·AnyStr .elements (ens .on .0 i)); bytes = joined (g .S·AnyStr .elements (ens .on .0 i)); bound = bound i } in
     let told = plays-at (sym (take-all (c .loop-i .i) calls (omega arith))) (ap (λ (k : ℕ). take k (c .loop-i .answers)) all) (inv .0 .2) in
     let played : Played (g .S·AnyStr .elements) on calls (take n (c .loop-i .answers)) (g .T·AnyStrContainer .held (c .args .tray .now)) (length (g .T·AnyStrContainer .spare (c .args .tray .now))) (g .T·AnyStrContainer .held (c .loop-i .tray)) (length (g .T·AnyStrContainer .spare (c .loop-i .tray))) =
-        record { events = inv .0 .0; at-last = state (c .loop-i .cutter); run = inv .0 .1; told = told; law = ens .law _ _ (inv .0 .1) } in
-    (omega arith,
-     subst (λ (o : Sheet). Played (g .S·AnyStr .elements) o calls (take n (c .loop-i .answers)) (g .T·AnyStrContainer .held (c .args .tray .now)) (length (g .T·AnyStrContainer .spare (c .args .tray .now))) (g .T·AnyStrContainer .held (c .loop-i .tray)) (length (g .T·AnyStrContainer .spare (c .loop-i .tray)))) same played,
-     subst (λ (k : ℕ). drop k (c .loop-i .answers) ≡ drop k (c .args .answers .now)) (sym all) (inv .1))
+    record { events = inv .0 .0; at-last = state (c .loop-i .cutter); run = inv .0 .1; told = told; law = ens .law _ _ (inv .0 .1) } in (
+      omega arith,
+      subst (λ (o : Sheet). Played (g .S·AnyStr .elements) o calls (take n (c .loop-i .answers)) (g .T·AnyStrContainer .held (c .args .tray .now)) (length (g .T·AnyStrContainer .spare (c .args .tray .now))) (g .T·AnyStrContainer .held (c .loop-i .tray)) (length (g .T·AnyStrContainer .spare (c .loop-i .tray)))) same played,
+      subst (λ (k : ℕ). drop k (c .loop-i .answers) ≡ drop k (c .args .answers .now)) (sym all) (inv .1),
+    )
