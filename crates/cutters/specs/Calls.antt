@@ -50,27 +50,31 @@ abbrev pub CutsNext : Sheet → ℕ → ℕ → Option Mark → Type 0
 CutsNext on made place None = cut-from on made place ≡ []
 CutsNext on made place (Some m) = cut-from on made place ≡ (m .start, m .end) ∷ cut-from on (suc made) (m .end)
 
--- next's answer, and the state after it
-abbrev pub Nexts : Sheet → State → Option Piece → State → Type 0
-Nexts on s r t = Step on s (next (mapped span r)) t
-
--- rest's answer; the state stays
-abbrev pub Rests : Sheet → State → Piece → Type 0
-Rests on s r = Step on s (rest (span r)) s
-
--- skip's answer, and the state after it
-abbrev pub Skips : {X : Type 0} → Sheet → State → ℕ → Result X Refusal → State → Type 0
-Skips on s n (Ok _) t = Step on s (skip n None) t
-Skips on s n (Err e) t = (left : ℕ) × (code e ≡ (9, left)) × Step on s (skip n (Some left)) t
-
 -- the refusal of a pour: spent, or the bytes that are needed
 abbrev pub pour-code : Option ℕ → ℕ × ℕ
 pour-code None = (8, 0)
 pour-code (Some n) = (7, n)
 
--- pour's answer, what the tray holds and has spare before it and after it, and the state after it
-abbrev pub Pours : {X : Type 0} → Sheet → State → (to held spare held′ spare′ : List ℕ) → Result X Refusal → State → Type 0
-Pours on s to held spare held′ spare′ (Ok _) t =
-    Step on s (pours to held (length spare) held′ (length spare′)) t × (spare′ ≡ drop (length (needed on to s)) spare)
-Pours on s to held spare held′ spare′ (Err e) t =
-    (why : Option ℕ) × (code e ≡ pour-code why) × Step on s (pour-refused to held (length spare) held′ (length spare′) why) t × (spare′ ≡ spare)
+module _ {S F C : Type 0} (marks : F → List (List ℕ) → Marks) (elements : S → List (List ℕ)) where
+  -- next's answer on a cutter, and the cutter after it
+  abbrev pub Nexts : Cutter S F C → Option Piece → Cutter S F C → Type 0
+  Nexts c r d = Step (sheet marks elements c) (state c) (next (mapped span r)) (state d)
+
+  -- rest's answer; the cutter stays
+  abbrev pub Rests : Cutter S F C → Piece → Type 0
+  Rests c r = Step (sheet marks elements c) (state c) (rest (span r)) (state c)
+
+  -- skip's answer, and the cutter after it
+  abbrev pub Skips : {X : Type 0} → Cutter S F C → ℕ → Result X Refusal → Cutter S F C → Type 0
+  Skips c n (Ok _) d = Step (sheet marks elements c) (state c) (skip n None) (state d)
+  Skips c n (Err e) d = (left : ℕ) × (code e ≡ (9, left)) × Step (sheet marks elements c) (state c) (skip n (Some left)) (state d)
+
+  -- pour's answer, with the tray before it and after it, and the cutter after it
+  abbrev pub Pours : {X Tray : Type 0} → (held spare : Tray → List ℕ) → Cutter S F C → S → Tray → Result X Refusal → Cutter S F C → Tray → Type 0
+  Pours held spare c to tray (Ok _) d tray′ =
+      Step (sheet marks elements c) (state c) (pours (joined (elements to)) (held tray) (length (spare tray)) (held tray′) (length (spare tray′))) (state d)
+      × (spare tray′ ≡ drop (length (needed (sheet marks elements c) (joined (elements to)) (state c))) (spare tray))
+  Pours held spare c to tray (Err e) d tray′ =
+      (why : Option ℕ) × (code e ≡ pour-code why)
+      × Step (sheet marks elements c) (state c) (pour-refused (joined (elements to)) (held tray) (length (spare tray)) (held tray′) (length (spare tray′)) why) (state d)
+      × (spare tray′ ≡ spare tray)

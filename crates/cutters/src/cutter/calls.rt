@@ -63,7 +63,7 @@ impl<S: AnyStr, F: Searcher<S>> Cutter<S, F> {
 
     // The rest: the text from the place on.
     pub fn rest(&self) -> Piece
-        ensures step { λ r. ⌜ Rests (sheet (F·Searcher .marks) (S·AnyStr .elements) (now (self .entry))) (state (now (self .entry))) r ⌝ }
+        ensures step { λ r. ⌜ Rests (F·Searcher .marks) (S·AnyStr .elements) (now (self .entry)) r ⌝ }
         ensures cut { λ r. ⌜ (Placed (S·AnyStr .elements) (now (self .entry)) → PieceOn (S·AnyStr .elements (now (self .entry) .text)) (Some r)) ⌝ }
     {
         Piece {
@@ -86,7 +86,7 @@ impl<S: AnyStr, F: Searcher<S>> Cutter<S, F> {
 
     // The next piece; none where the cutter is spent.
     pub fn next(&mut self) -> Option<Piece>
-        ensures step { λ r. ⌜ Nexts (sheet (F·Searcher .marks) (S·AnyStr .elements) (now (self .entry))) (state (now (self .entry))) r (state (now (self .exit))) ⌝ }
+        ensures step { λ r. ⌜ Nexts (F·Searcher .marks) (S·AnyStr .elements) (now (self .entry)) r (now (self .exit)) ⌝ }
         ensures same { λ _. ⌜ SameSheet (now (self .entry)) (now (self .exit)) ⌝ }
         ensures cut { λ r. ⌜ (Placed (S·AnyStr .elements) (now (self .entry)) → PieceOn (S·AnyStr .elements (now (self .entry) .text)) r × Placed (S·AnyStr .elements) (now (self .exit))) ⌝ }
     {
@@ -110,7 +110,7 @@ impl<S: AnyStr, F: Searcher<S>> Cutter<S, F> {
     }
     // Passes over `n` pieces; refused, with the number of pieces left, where these are fewer.
     pub fn skip(&mut self, n: u64) -> Result<(), Refusal>
-        ensures step { λ r. ⌜ Skips (sheet (F·Searcher .marks) (S·AnyStr .elements) (now (self .entry))) (state (now (self .entry))) n r (state (now (self .exit))) ⌝ }
+        ensures step { λ r. ⌜ Skips (F·Searcher .marks) (S·AnyStr .elements) (now (self .entry)) n r (now (self .exit)) ⌝ }
         ensures same { λ _. ⌜ SameSheet (now (self .entry)) (now (self .exit)) ⌝ }
         ensures cut { λ _. ⌜ (Placed (S·AnyStr .elements) (now (self .entry)) → Placed (S·AnyStr .elements) (now (self .exit))) ⌝ }
     {
@@ -178,7 +178,7 @@ impl<S: AnyStr, F: Searcher<S>> Cutter<S, F> {
     // Appends the rest to the tray with `to` in place of each mark still to be cut; the cutter is spent.
     // Refused, and nothing changes, where it was spent or the tray has too few free bytes.
     pub fn pour<T: AnyStrContainer>(&mut self, to: &S, tray: &mut T) -> Result<(), Refusal>
-        ensures step { λ r. ⌜ Pours (sheet (F·Searcher .marks) (S·AnyStr .elements) (now (self .entry))) (state (now (self .entry))) (joined (S·AnyStr .elements (now (to .entry)))) (T·AnyStrContainer .held (now (tray .entry))) (T·AnyStrContainer .spare (now (tray .entry))) (T·AnyStrContainer .held (now (tray .exit))) (T·AnyStrContainer .spare (now (tray .exit))) r (state (now (self .exit))) ⌝ }
+        ensures step { λ r. ⌜ Pours (F·Searcher .marks) (S·AnyStr .elements) (T·AnyStrContainer .held) (T·AnyStrContainer .spare) (now (self .entry)) (now (to .entry)) (now (tray .entry)) r (now (self .exit)) (now (tray .exit)) ⌝ }
         ensures same { λ _. ⌜ SameSheet (now (self .entry)) (now (self .exit)) ⌝ }
         ensures cut { λ _. ⌜ (Placed (S·AnyStr .elements) (now (self .entry)) → Placed (S·AnyStr .elements) (now (self .exit))) ⌝ }
     {
