@@ -1,6 +1,8 @@
-// Executed samples: texts, indices and searchers at their edges, against answers worked out elsewhere.
+// Executed samples: texts, indices, searchers, cutters and trays, against answers worked out elsewhere.
 #[cfg(test)]
 mod answers;
+#[cfg(test)]
+mod cuts;
 #[cfg(test)]
 mod elements;
 #[cfg(test)]
