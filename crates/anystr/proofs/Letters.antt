@@ -1,16 +1,15 @@
 -- Elements of a Text, by offset.
-use Prim.Native.Nat.{ℕ, zero, suc, _+_, _-_, _≤_, _<_}
-use mathlib.Core.Path.{_≡_, refl, sym, ap, subst, _∙_}
-use mathlib.Core.Bool.{true}
+use Prim.Native.Nat.{ℕ, zero, suc, _+_, _-_, _<_}
+use mathlib.Core.Path.{_≡_, refl, sym, ap, _∙_}
 use mathlib.Core.List.{List, [], _∷_, _++_, map}
 use native.Mathlib.Omega.{arith}
-use lib.ListN.{length, getD, take, drop, length-append, length-take, length-drop, take-append-drop}
+use lib.ListN.{length, getD, take, drop, length-append, length-take, take-append-drop}
 use lib.Utf8.{encode, encodes}
 use Rattle.std.specs.Text.{Utf8}
 use Rattle.std.specs.Words as words
 use Rattle.std.specs.shelf.Text.{decodes}
-use Rattle.std.proofs.shelf.Lists.{length-map, map-append, getD-at, take-at, length-take-le, take-rest}
-use Rattle.std.proofs.shelf.Text.{length-encode, width-bounds, encodes-decodes, decodes-append, decodes-past-char, decodes-nil, utf8-take, utf8-drop, utf8-between, utf8-nil}
+use Rattle.std.proofs.shelf.Lists.{length-map, map-append, getD-at, take-at, length-take-le}
+use Rattle.std.proofs.shelf.Text.{length-encode, width-bounds, encodes-decodes, decodes-append, decodes-past-char, decodes-nil, utf8-take, utf8-drop}
 use Rattle.anystr.specs.Elements.{offset}
 use Rattle.anystr.specs.OfText.{letters, offset-letters}
 

@@ -1,10 +1,9 @@
 -- Parts of a text, by its elements and by its bytes.
-use Prim.Native.Nat.{ℕ, _+_, _-_, _≤_, _<_}
-use mathlib.Core.Path.{_≡_, refl, sym, ap, subst, _∙_}
+use Prim.Native.Nat.{ℕ, _+_, _-_, _≤_}
+use mathlib.Core.Path.{_≡_, refl, sym, ap, _∙_}
 use mathlib.Core.List.{List, [], _∷_, _++_, map, append-assoc}
 use native.Mathlib.Omega.{arith}
 use lib.ListN.{length, take, drop, length-append, length-take, length-drop, take-append-drop}
-use lib.Seq.{take-add}
 use Rattle.std.proofs.shelf.Lists.{take-at, drop-at, map-append, length-take-le}
 use lib.Utf8.{encode}
 use Rattle.std.specs.Text.{Utf8}
@@ -12,7 +11,7 @@ use Rattle.std.specs.Words as words
 use Rattle.std.specs.Written.{joined}
 use Rattle.std.proofs.shelf.Text.{decodes-append, utf8-take, utf8-between}
 use Rattle.std.specs.shelf.Text.{decodes}
-use Rattle.anystr.specs.Elements.{offset, Part}
+use Rattle.anystr.specs.Elements.{Part}
 use Rattle.anystr.specs.OfBytes.{singles, joined-singles}
 use Rattle.anystr.specs.OfText.{letters, joined-letters}
 
@@ -20,23 +19,7 @@ pub joined-append : (xs ys : List (List ℕ)) → joined (xs ++ ys) ≡ joined x
 joined-append [] ys = refl
 joined-append (x ∷ xs) ys = ap (λ r. x ++ r) (joined-append xs ys) ∙ sym (append-assoc x (joined xs) (joined ys))
 
--- a part's bytes are the bytes between the offsets
-pub part-bytes : (es ps : List (List ℕ)) (a b : ℕ) → Part es ps a b → joined ps ≡ take (b - a) (drop a (joined es))
-part-bytes es ps a b p =
-    let i = p .from in
-    let w = p .to - i in
-    let mid = take w (drop i es) in
-    let rest = drop w (drop i es) in
-    let t : i + w ≡ p .to = let o = p .order in omega arith in
-    let whole : joined es ≡ joined (take i es) ++ (joined mid ++ joined rest) =
-    ap joined (sym (take-append-drop i es)) ∙ (joined-append (take i es) (drop i es) ∙ ap (λ r. joined (take i es) ++ r) (ap joined (sym (take-append-drop w (drop i es))) ∙ joined-append mid rest)) in
-    let upto : offset es (p .to) ≡ a + length (joined mid) =
-    ap (offset es) (sym t) ∙ (ap (λ xs. length (joined xs)) (take-add i w es) ∙ (ap length (joined-append (take i es) mid) ∙ (length-append (joined (take i es)) (joined mid) ∙ ap (λ n. n + length (joined mid)) (p .start)))) in
-    let size : length (joined mid) ≡ b - a = let e = p .end in omega arith in
-    ap joined (p .is) ∙ (sym (take-at (joined mid) (joined rest) (b - a) size)
-    ∙ ap (take (b - a)) (sym (ap (drop a) whole ∙ drop-at (joined (take i es)) (joined mid ++ joined rest) a (p .start))))
-
-pub part-from-split : (es f m r : List (List ℕ)) (a b : ℕ) → es ≡ f ++ (m ++ r) → length (joined f) ≡ a → a + length (joined m) ≡ b → Part es m a b
+part-from-split : (es f m r : List (List ℕ)) (a b : ℕ) → es ≡ f ++ (m ++ r) → length (joined f) ≡ a → a + length (joined m) ≡ b → Part es m a b
 part-from-split es f m r a b e la lb = record {
   from = length f;
   to = length f + length m;

@@ -4,17 +4,16 @@ use mathlib.Core.Path.{_≡_, refl, sym, ap, subst, _∙_}
 use mathlib.Core.Bool.{true}
 use mathlib.Core.List.{List, [], _∷_, _++_, map}
 use native.Mathlib.Omega.{arith}
-use lib.ListN.{length, getD, take, drop, length-take, length-drop, length-append, take-append-drop}
+use lib.ListN.{length, getD, take, drop, length-take, length-drop, take-append-drop}
 use lib.Utf8.{scalar, scalars, encode, encodes}
 use Rattle.std.specs.Text.{Utf8, width}
 use Rattle.std.specs.Words as words
 use Rattle.std.specs.shelf.Text.{decodes}
-use Rattle.std.proofs.shelf.Lists.{take-at, take-map, drop-map, length-take-le, getD-take, getD-drop, length-map, map-append}
+use Rattle.std.proofs.shelf.Lists.{take-at, take-map, length-take-le, getD-take, getD-drop}
 use Rattle.std.proofs.shelf.Tests.{and-parts}
 use Rattle.std.proofs.shelf.Text.{encodes-append, encodes-decodes, scalars-decodes, decodes-append, length-encode, width-bounds, utf8-take, utf8-drop, boundary-start, boundary-at-seam, boundary-from-take, boundary-from-rest}
 use Rattle.std.specs.Written.{joined}
-use Rattle.unicode.specs.Table.{WellFormed}
-use Rattle.unicode.proofs.Rows.{utf8-had, joined-encodes}
+use Rattle.unicode.proofs.Rows.{joined-encodes}
 use Rattle.anystr.specs.Elements.{offset, Boundary, Occurs, Filled}
 use Rattle.anystr.specs.Limits.{most-bytes}
 use Rattle.anystr.specs.OfBytes.{occurs-within}

@@ -1,12 +1,12 @@
 -- What one next changes in what is left to cut and to pour.
-use Prim.Native.Nat.{ℕ, zero, suc, _+_, _-_, _*_, _≤_, _<_}
+use Prim.Native.Nat.{ℕ, zero, suc, _+_, _-_, _≤_, _<_}
 use native.Mathlib.Omega.{arith}
 use mathlib.Core.Path.{_≡_, refl, sym, ap, subst, _∙_}
 use mathlib.Core.Bool.{Bool, true, false, cond, false≢true}
 use mathlib.Core.List.{List, [], _∷_, _++_, append-nil}
 use mathlib.Core.Logic.{⊎-elim}
 use lib.ListN.{length, take, drop}
-use Rattle.std.specs.declared.option.Option.the-variants.{Some, None}
+use Rattle.std.specs.declared.option.Option.the-variants.{Some}
 use Rattle.std.proofs.shelf.Lists.{take-rest}
 use Rattle.std.proofs.shelf.Tests.{cases-lt}
 use Rattle.searchers.specs.Marks.{Span, Lawful}
@@ -15,7 +15,7 @@ use Rattle.cuts.specs.Runs.{Step, next}
 use Rattle.cuts.proofs.Greedy.{Greedy, greedy-one}
 use Rattle.cuts.proofs.Listed.{greedy-cuts}
 use Rattle.cuts.proofs.Found.{listed-past}
-use Rattle.cuts.proofs.Reach.{length-between, none-some}
+use Rattle.cuts.proofs.Reach.{none-some}
 
 -- the first of the marks still to be cut, and those after it
 pub record First (sheet : Sheet) (made place : ℕ) (m : Span) (ms : List Span) : Type 0 where
@@ -46,15 +46,6 @@ module _ (sheet : Sheet) (law : Lawful (sheet .marks) (size sheet)) where
         others = greedy-one (sheet .bound) law (suc made) (m .1) _ ms (greedy-cuts (sheet .bound) law (suc made) (m .1) inside) (g .2);
       })
       (cases-lt (size sheet) place)
-
--- a next that gives none leaves a spent cutter as it is
-pub next-none : (sheet : Sheet) (place made : ℕ) (spent : Bool) → None ≡ next-of sheet (at place made spent) .0 → spent ≡ true
-next-none sheet place made true e = refl
-next-none sheet place made false e = by (cut-from sheet made place) refl
-  where
-    by : (ms : List Span) → cut-from sheet made place ≡ ms → false ≡ true
-    by [] q = absurd (none-some _ (e ∙ (λ i. after-cut (size sheet) (at place made false) (q i) .0)))
-    by (m ∷ ms) q = absurd (none-some _ (e ∙ (λ i. after-cut (size sheet) (at place made false) (q i) .0)))
 
 -- one next on a cutter that is not spent
 pub record Nexted (sheet : Sheet) (place made : ℕ) : Type 0 where

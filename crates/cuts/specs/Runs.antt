@@ -1,10 +1,10 @@
 -- What holds of a cutter after every list of calls, in the words of marks, cuts and pieces. Assumes nothing.
 use Prim.Native.Nat.{ℕ, zero, suc, _+_, _-_, _≤_, _<_}
 use mathlib.Core.Path.{_≡_}
-use mathlib.Core.Bool.{Bool, true, false, cond, _&&_}
+use mathlib.Core.Bool.{true, false, cond}
 use mathlib.Core.List.{List, [], _∷_, _++_}
 use mathlib.Core.Logic.{_⊎_}
-use lib.ListN.{length, take, drop, getD}
+use lib.ListN.{length, take}
 use lib.IntN.{ℤ}
 use lib.Dec.{T, ltb}
 use Rattle.std.specs.declared.option.Option.{Option}

@@ -1,7 +1,7 @@
 -- A tray while bytes are poured into it.
 use Prim.Native.Nat.{ℕ, _+_, _-_, _≤_}
 use native.Mathlib.Omega.{arith}
-use mathlib.Core.Path.{_≡_, refl, sym, ap, subst, _∙_}
+use mathlib.Core.Path.{_≡_, sym, ap, subst, _∙_}
 use mathlib.Core.Bool.{Bool, true, false, cond}
 use mathlib.Core.List.{List, [], _++_, append-assoc}
 use lib.ListN.{length, take, drop, length-append, length-drop}
@@ -23,9 +23,6 @@ pub record Pouring (held spare rest all spare₀ : List ℕ) (total : ℕ) : Typ
   pub gone : ℕ
   pub left : spare ≡ drop gone spare₀
   pub count : gone + length rest ≡ total
-
-pub begins : (held spare rest : List ℕ) → length rest ≤ length spare → Pouring held spare rest (held ++ rest) spare (length rest)
-begins held spare rest room = record { whole = refl; room = room; gone = 0; left = refl; count = omega arith }
 
 -- one push more
 pub pushed : (held spare bytes rest all spare₀ held′ spare′ : List ℕ) (total : ℕ) → Pouring held spare (bytes ++ rest) all spare₀ total

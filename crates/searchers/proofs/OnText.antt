@@ -1,10 +1,10 @@
 -- The marks of each searcher lie on boundaries.
 use Prim.Native.Nat.{ℕ, suc, _+_, _<_}
 use mathlib.Core.Path.{_≡_, sym, ap, subst}
-use mathlib.Core.Bool.{Bool, true}
+use mathlib.Core.Bool.{Bool}
 use mathlib.Core.List.{List}
 use native.Mathlib.Omega.{arith}
-use lib.ListN.{length, getD}
+use lib.ListN.{length}
 use Rattle.std.specs.Written.{joined}
 use Rattle.anystr.specs.Elements.{Boundary, Occurs}
 use Rattle.anystr.specs.OfBytes.{singles, joined-singles, boundary}

@@ -1,13 +1,12 @@
 -- The rows of the table are the encodings of the scalar values, so the table says what the library's `Utf8` says.
-use Prim.Native.Nat.{ℕ, _+_, _-_, _*_, _/_, _%_, _≤_, _<_}
+use Prim.Native.Nat.{ℕ, _+_, _-_, _*_, _/_, _≤_, _<_}
 use mathlib.Core.Path.{_≡_, refl, sym, ap, subst, _∙_}
 use mathlib.Core.Logic.{_⊎_, inl, inr, ⊎-elim, ∥∥₁-elim}
-use mathlib.Core.Bool.{Bool, true, false, cond, _&&_, Bool-set}
+use mathlib.Core.Bool.{Bool, true, false, cond, Bool-set}
 use mathlib.Core.List.{List, [], _∷_, _++_, map, List·isSet}
 use mathlib.Core.HLevel.{hedberg}
 use native.Mathlib.Decide.{ℕ-discrete}
 use native.Mathlib.Omega.{arith}
-use lib.ListN.{length}
 use lib.Dec.{leb, ltb}
 use lib.Utf8.{scalar, scalars, next, encode, encodes, scalar-cases, low-scalar}
 use Rattle.std.specs.Text.{Utf8, In}
