@@ -1,3 +1,5 @@
 // Sets of bytes, and the search for their bytes.
+#![tactic(auto)]
+
 pub mod asciiset;
 pub mod byteset;

@@ -1,4 +1,6 @@
 // The byte methods under their Python names.
+#![tactic(auto)]
+
 pub mod splitargs;
 pub mod splitting;
 

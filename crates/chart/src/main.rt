@@ -1,4 +1,6 @@
 // Reads a harbour's chart index from the standard input, and shows its rows and fields, or what a method gives on it.
+#![tactic(auto)]
+
 mod answer;
 mod calls;
 mod edit;

@@ -1,4 +1,6 @@
 // Cutters: texts cut at marks, piece by piece.
+#![tactic(auto)]
+
 pub mod bound;
 pub mod cutter;
 pub mod piece;

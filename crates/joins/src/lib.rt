@@ -1,4 +1,6 @@
 // Parts of a text, joined with another text between them.
+#![tactic(auto)]
+
 ghost use Rattle.std.specs.Prelude.{◌≡◌, ◌≤◌, ◌++◌, length, drop, None};
 ghost use Rattle.std.specs.List.{concat};
 ghost use Rattle.anystr.specs.Places.{stretches, join_parts};

@@ -1,4 +1,6 @@
 // The search for line ends.
+#![tactic(auto)]
+
 ghost use Rattle.std.specs.Prelude.{◌≡◌, ◌<◌, T, length};
 ghost use Rattle.std.specs.List.{concat};
 ghost use Rattle.lineends.specs.Lines.{cr, lf, line_end, line_end-lawful};

@@ -1,4 +1,6 @@
 // Lines: texts split at line ends.
+#![tactic(auto)]
+
 ghost use Rattle.std.specs.Prelude.{true, false, Ok};
 ghost use Rattle.std.specs.List.{concat};
 ghost use Rattle.anystr.specs.Places.{Lists};

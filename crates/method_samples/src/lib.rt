@@ -1,4 +1,6 @@
 // Samples of the definitions, proved as one list, and executed tests at the limits.
+#![tactic(auto)]
+
 ghost use Rattle.std.specs.Prelude.{◌≡◌, length};
 ghost use Rattle.method_samples.specs.Samples.{samples, SamplesHold};
 

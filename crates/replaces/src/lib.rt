@@ -1,4 +1,6 @@
 // A text with another in place of a third.
+#![tactic(auto)]
+
 ghost use Rattle.std.specs.Prelude.{◌≡◌, suc, ◌≤◌, ◌++◌, length, drop, pos};
 ghost use Rattle.std.specs.List.{concat};
 ghost use Rattle.trays.specs.Trays.{Pushed, Fills};

@@ -1,4 +1,6 @@
 // Reads cases from the standard input, one a line, and answers each with a line.
+#![tactic(auto)]
+
 mod case;
 mod desk;
 mod digits;

@@ -1,4 +1,6 @@
 // Executed samples: texts, indices, searchers, cutters and trays, against answers worked out elsewhere.
+#![tactic(auto)]
+
 #[cfg(test)]
 mod answers;
 #[cfg(test)]

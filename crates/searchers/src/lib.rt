@@ -1,4 +1,6 @@
 // Searchers: what finds marks in texts.
+#![tactic(auto)]
+
 pub mod ascii;
 pub mod mark;
 pub mod scan;

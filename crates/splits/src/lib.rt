@@ -1,4 +1,6 @@
 // Texts split at a separator, from the front and from the end.
+#![tactic(auto)]
+
 pub mod back;
 mod listing;
 pub mod rsplit;

@@ -1,4 +1,6 @@
 // The search for a text in another of its kind.
+#![tactic(auto)]
+
 ghost use Rattle.std.specs.Prelude.{◌≡◌, ◌+◌, ◌<◌, ◌≤◌, length, drop};
 ghost use Rattle.std.specs.List.{concat};
 ghost use Rattle.anystr.specs.Refusals.{PassesIf};

@@ -1,4 +1,6 @@
 // The kind of text whose elements are Unicode scalar values in UTF-8.
+#![tactic(auto)]
+
 ghost use Rattle.std.specs.Prelude.{◌≡◌, ◌≤◌, [], length, Decides, MatchResult};
 ghost use Rattle.std.proofs.Math.Utf8.{encode};
 ghost use Rattle.std.specs.Str as words;

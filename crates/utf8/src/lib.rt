@@ -1,4 +1,6 @@
 // Well-formed UTF-8, as Table 3-7 of the Unicode Standard has it.
+#![tactic(auto)]
+
 ghost use Rattle.std.specs.Prelude.{length, MatchResult};
 ghost use Rattle.utf8.specs.Table.{WellFormed, Longest, TableIsUtf8};
 

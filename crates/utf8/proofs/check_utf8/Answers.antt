@@ -22,6 +22,6 @@ returns-in-Err c =
       longest = λ m more fits w. v.longest m more (utf8_from_formed (take m bs) w);
     } in
     record {
-      cases = (bad, subst (Longest bs) (sym c.valid-up-to.ensures) most);
+      cases = (bad, subst (Longest bs) (sym c.valid_up_to.ensures) most);
       table = λ bs. (utf8_from_formed bs, formed-from_utf8 bs);
     }
