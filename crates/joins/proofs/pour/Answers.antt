@@ -19,15 +19,15 @@ loop-i-preserved g c =
     let i = c.loop-i.i in
     let lt : i < length places = omega arith in
     let cut = good-here sep es places i lt c.loop-i.invariant.0 in
-    let is = part_bytes es _ _ _ (c.get-bytes.ensures.given cut) in
+    let is = part_bytes es _ _ _ (c.get_bytes.ensures.given cut) in
     let held = g.T.AnyStrContainer.held in
     let spare = g.T.AnyStrContainer.spare in
     let whole = join_parts sep (concat es) (stretches places) in
     let turned : g.row.T.Denot → Type 0 = λ t. Pouring (held t) (spare t) (join_parts sep (concat es) (stretches (drop (i + 1) places))) (held c.args.tray.now ++ whole) (spare c.args.tray.now) (length whole) in (
       good_more sep es places i lt cut ∙ c.loop-i.invariant.0,
       elim c.if-i-n.branch [
-        | then-i-n w ↦ subst turned (sym w.tray-is) (more-poured sep (concat es) places i lt _ _ _ _ _ c.loop-i.invariant.1 _ _ _ c.push-str.result is c.push-str.ensures w.if-i-n.true _ _ w.push-str-then-i-n.result w.push-str-then-i-n.ensures)
-        | else-i-n w ↦ subst turned (sym w.tray-is) (last-poured sep (concat es) places i lt _ _ _ _ _ c.loop-i.invariant.1 _ _ _ c.push-str.result is c.push-str.ensures w.if-i-n.false)
+        | then-i-n w ↦ subst turned (sym w.tray-is) (more-poured sep (concat es) places i lt _ _ _ _ _ c.loop-i.invariant.1 _ _ _ c.push_str.result is c.push_str.ensures w.if-i-n.true _ _ w.push_str-then-i-n.result w.push_str-then-i-n.ensures)
+        | else-i-n w ↦ subst turned (sym w.tray-is) (last-poured sep (concat es) places i lt _ _ _ _ _ c.loop-i.invariant.1 _ _ _ c.push_str.result is c.push_str.ensures w.if-i-n.false)
       ],
     )
 

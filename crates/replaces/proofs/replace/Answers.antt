@@ -18,7 +18,7 @@ returns-in-Present g c =
     let zero : count ≡ pos 0 = omega (arith, ints) in
     let same = bound-zero c.args.maxcount count c.in-Present.is zero in
     record {
-      filled = fills _ _ _ _ _ _ (concat es) c.push-str.result (ap (replaced es from to) same ∙ none-replaced es from to) (omega (arith, g.S.AnyStr.few text)) c.push-str.ensures;
+      filled = fills _ _ _ _ _ _ (concat es) c.push_str.result (ap (replaced es from to) same ∙ none-replaced es from to) (omega (arith, g.S.AnyStr.few text)) c.push_str.ensures;
       law = replace-law es from to (bound_of c.args.maxcount) (g.S.AnyStr.filled text);
     }
 
@@ -30,7 +30,7 @@ returns-in-Present-2 g c =
     let above : lt_z (pos 0) count ≡ true = ap (lt_z (pos 0)) (sym at) ∙ c.if-count-gt0.true in
     let same = bound-above c.args.maxcount count c.in-Present-2.is above in
     record {
-      filled = rw (same, ← at) c.replace-bounded.ensures;
+      filled = rw (same, ← at) c.replace_bounded.ensures;
       law = replace-law _ _ _ _ (g.S.AnyStr.filled c.args.text.now);
     }
 
@@ -42,12 +42,12 @@ returns-in-Present-3 g c =
     let below : lt_z (pos 0) count ≡ false = ap (lt_z (pos 0)) (sym (to_z-of_z w64 count f)) ∙ c.if-count-gt0.false in
     let same = bound-below c.args.maxcount count c.in-Present-2.is some below in
     record {
-      filled = rw same c.replace-bounded-in-Present-3.ensures;
+      filled = rw same c.replace_bounded-in-Present-3.ensures;
       law = replace-law _ _ _ _ (g.S.AnyStr.filled c.args.text.now);
     }
 
 pub returns-in-Missing : goal.returns-in-Missing
 returns-in-Missing g c = record {
-  filled = rw c.in-Missing.is c.replace-bounded-in-Missing.ensures;
+  filled = rw c.in-Missing.is c.replace_bounded-in-Missing.ensures;
   law = replace-law _ _ _ _ (g.S.AnyStr.filled c.args.text.now);
 }

@@ -5,21 +5,21 @@ use Rattle.finds.proofs.Meant.{meant, answers, keeps}
 use Rattle.finds.proofs.Cutting.{number_is}
 use Rattle.finds.proofs.count.count.Goals as goal
 
-pub times-between-requires : goal.times-between-requires
-times-between-requires c =
-    (meant c.args.options c.args.text.now.bytes.now (needle_bytes c.in-ok-needle.needle) c.as-bytes.result.now c.new-needle.result.bytes.now c.bytes-len.result c.in-ok-needle.range.start c.in-ok-needle.range.end
-    c.in-ok-needle.ensures c.bytes-len.ensures c.as-bytes.ensures c.new-needle.ensures.given).within
+pub times_between-requires : goal.times_between-requires
+times_between-requires c =
+    (meant c.args.options c.args.text.now.bytes.now (needle_bytes c.in_ok-needle.needle) c.as_bytes.result.now c.new-needle.result.bytes.now c.bytes_len.result c.in_ok-needle.range.start c.in_ok-needle.range.end
+    c.in_ok-needle.ensures c.bytes_len.ensures c.as_bytes.ensures c.new-needle.ensures.given).within
 
 pub returns : goal.returns
 returns c =
     let bs = c.args.text.now.bytes.now in
     let n = c.new-needle.result.bytes.now in
-    let a = c.in-ok-needle.range.start in
-    let b = c.in-ok-needle.range.end in
+    let a = c.in_ok-needle.range.start in
+    let b = c.in_ok-needle.range.end in
     let m =
-    meant c.args.options bs (needle_bytes c.in-ok-needle.needle) c.as-bytes.result.now n c.bytes-len.result a b
-    c.in-ok-needle.ensures c.bytes-len.ensures c.as-bytes.ensures c.new-needle.ensures.given in
+    meant c.args.options bs (needle_bytes c.in_ok-needle.needle) c.as_bytes.result.now n c.bytes_len.result a b
+    c.in_ok-needle.ensures c.bytes_len.ensures c.as_bytes.ensures c.new-needle.ensures.given in
     record {
-      value = answers c.args.options (length bs) n a b m c.times-between.result (count_of bs) c.times-between.ensures;
-      law = keeps c.args.options (length bs) n a b m c.times-between.result (Number bs) (number_is bs n a b c.times-between.result m.within c.times-between.ensures);
+      value = answers c.args.options (length bs) n a b m c.times_between.result (count_of bs) c.times_between.ensures;
+      law = keeps c.args.options (length bs) n a b m c.times_between.result (Number bs) (number_is bs n a b c.times_between.result m.within c.times_between.ensures);
     }

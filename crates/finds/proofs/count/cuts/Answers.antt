@@ -34,5 +34,5 @@ returns c =
     let bs = c.args.part.bytes.now in
     let needle = ap (λ t. concat (singles t.bytes.now)) c.new-searcher.ensures ∙ concat-singles n in
     let part = concat-singles bs in
-    let none = subst (λ (ms : Marks). NoneFrom ms c.loop-mark.place) (λ i. occurrence (needle i) (part i)) c.in-default.ensures.value in
+    let none = subst (λ (ms : Marks). NoneFrom ms c.loop-mark.place) (λ i. occurrence (needle i) (part i)) c.in_default.ensures.value in
     omega (arith, no_cut n bs c.loop-mark.made c.loop-mark.place none, c.loop-mark.invariant.0, times-some n bs c.requires)

@@ -7,6 +7,6 @@ use Rattle.lineends.proofs.LineEndsSearcher.find.Goals as goal
 pub returns : goal.returns
 returns g c =
     let es = g.S.AnyStr.elements c.args.text.now in
-    let r = c.first-mark.result in
-    let h = finds_in line_end c.as-bytes.result.now (concat es) c.as-bytes.ensures c.args.from r c.first-mark.ensures in
-    record { value = h; cut = finds_on es (line_end (concat es)) c.args.from r (line-ends_on es c.ascii-apart.ensures) h }
+    let r = c.first_mark.result in
+    let h = finds_in line_end c.as_bytes.result.now (concat es) c.as_bytes.ensures c.args.from r c.first_mark.ensures in
+    record { value = h; cut = finds_on es (line_end (concat es)) c.args.from r (line-ends_on es c.ascii_apart.ensures) h }

@@ -14,7 +14,7 @@ loop-i-preserved g c =
     let piece = c.in-Some.piece in
     let place : Place = record { start = piece.start; end = piece.end } in
     let e = c.in-Some.ensures in
-    let after = g.P.Pieces.left c.next-piece.new.self in
+    let after = g.P.Pieces.left c.next_piece.new.self in
     let at = comes xs after i (piece.start, piece.end) (sym c.loop-i.invariant.1 ∙ e) in
     let n : length (take i xs) ≡ i = length-take-le i xs (omega (arith, at.within)) in
     let lt : length (take i xs) < length list = omega arith in
@@ -24,9 +24,9 @@ loop-i-preserved g c =
       gives_more xs (g.P.Pieces.left c.loop-i.source) after i (Some piece) c.loop-i.invariant.1 e,
     )
 
-pub returns-in-default : goal.returns-in-default
-returns-in-default g c =
+pub returns-in_default : goal.returns-in_default
+returns-in_default g c =
     let xs = g.P.Pieces.left c.args.source.now in
     let i : ℕ = c.loop-i.i in
-    let none : drop i xs ≡ [] = sym c.loop-i.invariant.1 ∙ c.in-default.ensures.0 in
+    let none : drop i xs ≡ [] = sym c.loop-i.invariant.1 ∙ c.in_default.ensures.0 in
     subst (λ (ps : List Span). Filled ps c.args.places.now c.loop-i.places) (all_taken xs i (length c.args.places.now) (omega arith) none) c.loop-i.invariant.0

@@ -8,7 +8,7 @@ loop-end-init g c = (omega (arith, c.min-end.ensures), λ b d lt le m. omega (ar
 pub loop-end-preserved : goal.loop-end-preserved
 loop-end-preserved g c =
     let marks = g.P.Pattern.marks c.args.pattern.now c.args.bytes.now in
-    (omega arith, λ b d lt le m. ⊎_elim (λ h. c.loop-end.invariant.1 b d h le m) (λ ge. let e : d ≡ c.loop-end.end = omega arith in c.in-default.ensures b (subst (λ (k : ℕ). T (marks b k)) e m)) (cases_lt c.loop-end.end d))
+    (omega arith, λ b d lt le m. ⊎_elim (λ h. c.loop-end.invariant.1 b d h le m) (λ ge. let e : d ≡ c.loop-end.end = omega arith in c.in_default.ensures b (subst (λ (k : ℕ). T (marks b k)) e m)) (cases_lt c.loop-end.end d))
 
 pub returns : goal.returns
 returns g c b d le m =

@@ -18,4 +18,4 @@ pub returns : goal.returns
 returns g c =
     let bs = concat (g.S.AnyStr.elements c.args.text.now) in
     let set = member c.args.set.now.set.has in
-    omega (arith, c.loop-mark.invariant.2, to_end set bs c.loop-mark.from c.loop-mark.invariant.0 c.in-default.ensures.value)
+    omega (arith, c.loop-mark.invariant.2, to_end set bs c.loop-mark.from c.loop-mark.invariant.0 c.in_default.ensures.value)

@@ -3,8 +3,8 @@ use Rattle.sheets.specs.Shown.{shown}
 use Rattle.sheets.proofs.Walks.{element_stands, walk_over, shown-more, cut-is}
 use Rattle.sheets.proofs.escapes.add_text.Goals as goal
 
-pub overflow-add-end : goal.overflow-add-end
-overflow-add-end g c =
+pub overflow_add-end : goal.overflow_add-end
+overflow_add-end g c =
     let s = c.args.text.now in
     let es = g.S.AnyStr.elements s in
     let inv = c.loop-len.invariant in
@@ -12,14 +12,14 @@ overflow-add-end g c =
     let l = c.in-Some.ensures.len in
     omega (arith, g.S.AnyStr.few s)
 
-pub slice-bounds-add-element-end : goal.slice-bounds-add-element-end
-slice-bounds-add-element-end g c =
+pub slice_bounds-add_element-end : goal.slice_bounds-add_element-end
+slice_bounds-add_element-end g c =
     let s = c.args.text.now in
     let es = g.S.AnyStr.elements s in
     let inv = c.loop-len.invariant in
     let here = element_stands es inv.0 c.loop-len.start _ (g.S.AnyStr.filled s) inv.1 c.in-Some.ensures.element in
     let l = c.in-Some.ensures.len in
-    omega (arith, ap length c.as-bytes-bytes.ensures)
+    omega (arith, ap length c.as_bytes-bytes.ensures)
 
 pub loop-len-smaller : goal.loop-len-smaller
 loop-len-smaller g c =
@@ -37,11 +37,11 @@ loop-len-preserved g c =
     let inv = c.loop-len.invariant in
     let here = element_stands es inv.0 c.loop-len.start _ (g.S.AnyStr.filled s) inv.1 c.in-Some.ensures.element in
     let l = c.in-Some.ensures.len in
-    let cut = cut-is es inv.0 _ _ c.loop-len.start c.in-Some.len here c.as-bytes-bytes.ensures inv.1 l in
-    (inv.0 + 1, omega (arith, here.next, inv.1, l), shown-more es inv.0 _ _ _ _ _ here cut inv.2 c.in-ok-add-element.ensures)
+    let cut = cut-is es inv.0 _ _ c.loop-len.start c.in-Some.len here c.as_bytes-bytes.ensures inv.1 l in
+    (inv.0 + 1, omega (arith, here.next, inv.1, l), shown-more es inv.0 _ _ _ _ _ here cut inv.2 c.in_ok-add_element.ensures)
 
 pub returns : goal.returns
 returns g c =
     let s = c.args.text.now in
     let inv = c.loop-len.invariant in
-    inv.2 ∙ ap (λ xs. vec_items c.args.out.now ++ shown xs) (walk_over (g.S.AnyStr.elements s) inv.0 c.loop-len.start (g.S.AnyStr.filled s) inv.1 c.in-default.ensures.element)
+    inv.2 ∙ ap (λ xs. vec_items c.args.out.now ++ shown xs) (walk_over (g.S.AnyStr.elements s) inv.0 c.loop-len.start (g.S.AnyStr.filled s) inv.1 c.in_default.ensures.element)

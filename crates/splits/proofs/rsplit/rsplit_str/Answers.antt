@@ -6,16 +6,16 @@ use Rattle.splits.proofs.Laws.{rsplit-kept}
 use Rattle.splits.proofs.Turned.{from_back, accepted, turned-listed, turned-refused}
 use Rattle.splits.proofs.rsplit.rsplit_str.Goals as goal
 
-pub returns-in-err-n : goal.returns-in-err-n
-returns-in-err-n g c =
+pub returns-in_err-n : goal.returns-in_err-n
+returns-in_err-n g c =
     let sep = concat (g.S.AnyStr.elements c.args.sep.now) in
     let qs = from_back (concat (g.S.AnyStr.elements c.args.text.now)) sep c.args.maxsplit in
     let list = c.args.places.now in
-    let list' = c.list-pieces.new.places in
-    let e = c.in-err-n.field-0.0 in
+    let list' = c.list_pieces.new.places in
+    let e = c.in_err-n.field-0.0 in
     let there : Lists (Ok qs) list list' (Err e) = search rules in
-    let here = accepted sep (reverse qs) list list' (Err e) c.in-ok-check.ensures (turned-refused qs list list' e there) in
-    let p = err_from_is_err_and c.from-residual-in-err-n.result c.from-residual-in-err-n.ensures.1 in
+    let here = accepted sep (reverse qs) list list' (Err e) c.in_ok-check.ensures (turned-refused qs list list' e there) in
+    let p = err_from_is_err_and c.from-residual-in_err-n.result c.from-residual-in_err-n.ensures.1 in
     rw (p.1, p.2) (record { list = here; rule = tt; restores = tt; cut = tt })
 
 pub returns : goal.returns
@@ -24,11 +24,11 @@ returns g c =
     let sep = concat (g.S.AnyStr.elements c.args.sep.now) in
     let qs = from_back (concat es) sep c.args.maxsplit in
     let list = c.args.places.now in
-    let list' = c.list-pieces.new.places in
-    let n = c.in-ok-n.n in
+    let list' = c.list_pieces.new.places in
+    let n = c.in_ok-n.n in
     let front = c.reverse.new.self in
     let list'' = front ++ drop (n - 0) list' in
     let there : Lists (Ok qs) list list' (Ok n) = search rules in
-    let here = accepted sep (reverse qs) list list'' (Ok n) c.in-ok-check.ensures (turned-listed qs list list' front n there c.reverse.ensures.after) in
+    let here = accepted sep (reverse qs) list list'' (Ok n) c.in_ok-check.ensures (turned-listed qs list list' front n there c.reverse.ensures.after) in
     let k = rsplit-kept es sep (g.S.AnyStr.whole c.args.text.now c.args.sep.now) c.args.maxsplit list list'' (Ok n) here in
     record { list = here; rule = k.rule; restores = k.restores; cut = k.cut }

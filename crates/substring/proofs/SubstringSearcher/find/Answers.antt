@@ -12,8 +12,8 @@ returns g c =
     let t = c.args.self.now.needle in
     let es = g.S.AnyStr.elements s in
     let n = concat (g.S.AnyStr.elements t) in
-    let bs = c.as-bytes-2.result.now in
+    let bs = c.as_bytes-2.result.now in
     let p = c.args.from in
-    let r = c.first-mark.result in
-    let h = finds_in (occurrence n) bs (concat es) c.as-bytes-2.ensures p r (subst (λ (k : List ℕ). Finds (occurrence k bs) p r) c.as-bytes.ensures c.first-mark.ensures) in
+    let r = c.first_mark.result in
+    let h = finds_in (occurrence n) bs (concat es) c.as_bytes-2.ensures p r (subst (λ (k : List ℕ). Finds (occurrence k bs) p r) c.as_bytes.ensures c.first_mark.ensures) in
     record { value = h; cut = finds_on es (occurrence n (concat es)) p r (occurrences_on es n (g.S.AnyStr.whole s t)) h }

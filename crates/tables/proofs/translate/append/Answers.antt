@@ -12,5 +12,5 @@ returns g c =
     let is : sent ≡ bytes = ap concat (c.new.ensures.given (omega (arith, c.requires.few))) ∙ concat-singles bytes in
     let same = ap length is in
     let fits : length sent ≤ length spare = omega (arith, c.requires.fits) in
-    let t = took sent (g.T.AnyStrContainer.held c.args.tray.now) spare _ _ c.push-str.result fits c.push-str.ensures in
+    let t = took sent (g.T.AnyStrContainer.held c.args.tray.now) spare _ _ c.push_str.result fits c.push_str.ensures in
     record { held = t.0 ∙ ap (λ bs. g.T.AnyStrContainer.held c.args.tray.now ++ bs) is; spare = t.1 ∙ ap (λ n. drop n spare) same }

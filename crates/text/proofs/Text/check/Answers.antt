@@ -2,8 +2,8 @@ use Rattle.std.proofs.Common.{refl, inl, inr, arith}
 use Rattle.utf8.proofs.Rows.{utf8_from_formed, formed-from_utf8}
 use Rattle.text.proofs.Text.check.Goals as goal
 
-pub returns-then-bytes-gt-MAX-BYTES : goal.returns-then-bytes-gt-MAX-BYTES
-returns-then-bytes-gt-MAX-BYTES c = record { cases = inl (omega arith, refl); table = λ bs. (utf8_from_formed bs, formed-from_utf8 bs) }
+pub returns-then-bytes-gt-MAX_BYTES : goal.returns-then-bytes-gt-MAX_BYTES
+returns-then-bytes-gt-MAX_BYTES c = record { cases = inl (omega arith, refl); table = λ bs. (utf8_from_formed bs, formed-from_utf8 bs) }
 
 pub returns-in-Err : goal.returns-in-Err
 returns-in-Err c =

@@ -4,14 +4,14 @@ use Rattle.utf8.proofs.Rows.{formed-from_utf8}
 use Rattle.text.proofs.Letters.{letters-nil}
 use Rattle.text.proofs.Text.new.Goals as goal
 
-pub invariant-of-result : goal.invariant-of-result
-invariant-of-result c = (omega arith, (∣ formed-from_utf8 [] IsUtf8-nil ∣₁, tt))
+pub invariant_of-result : goal.invariant_of-result
+invariant_of-result c = (omega arith, (∣ formed-from_utf8 [] IsUtf8-nil ∣₁, tt))
 
-pub invariant-of-result-2 : goal.invariant-of-result-2
-invariant-of-result-2 c = let k = c.in-Ok.ensures.cases in (k.0, (∣ k.1 ∣₁, tt))
+pub invariant_of-result-2 : goal.invariant_of-result-2
+invariant_of-result-2 c = let k = c.in-Ok.ensures.cases in (k.0, (∣ k.1 ∣₁, tt))
 
-pub returns-in-default : goal.returns-in-default
-returns-in-default c = record {
-  given = λ t. absurd (⊎_elim (λ h. let l = h.0 in let k = t.0 in omega arith) (λ h. h.1 t.1) c.in-default.ensures.cases);
+pub returns-in_default : goal.returns-in_default
+returns-in_default c = record {
+  given = λ t. absurd (⊎_elim (λ h. let l = h.0 in let k = t.0 in omega arith) (λ h. h.1 t.1) c.in_default.ensures.cases);
   refused = λ _. letters-nil;
 }

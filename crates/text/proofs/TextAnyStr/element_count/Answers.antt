@@ -5,8 +5,8 @@ use Rattle.utf8.proofs.Rows.{utf8_had}
 use Rattle.text.proofs.Letters.{length-letters}
 use Rattle.text.proofs.TextAnyStr.element_count.Goals as goal
 
-pub from-utf8-unchecked-text-requires : goal.from-utf8-unchecked-text-requires
-from-utf8-unchecked-text-requires c = utf8_had _ c.args.self.now.formed
+pub from_utf8_unchecked-text-requires : goal.from_utf8_unchecked-text-requires
+from_utf8_unchecked-text-requires c = utf8_had _ c.args.self.now.formed
 
 pub returns : goal.returns
 returns c =

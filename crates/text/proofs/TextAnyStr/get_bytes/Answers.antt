@@ -7,17 +7,17 @@ use Rattle.text.proofs.Letters.{letters-nil}
 use Rattle.text.proofs.Letters.{part-letters}
 use Rattle.text.proofs.TextAnyStr.get_bytes.Goals as goal
 
-pub invariant-of-result : goal.invariant-of-result
-invariant-of-result c = (omega arith, (∣ formed-from_utf8 [] IsUtf8-nil ∣₁, tt))
+pub invariant_of-result : goal.invariant_of-result
+invariant_of-result c = (omega arith, (∣ formed-from_utf8 [] IsUtf8-nil ∣₁, tt))
 
-pub returns-in-default : goal.returns-in-default
-returns-in-default c = record { given = λ k. absurd (c.in-default.ensures.0 k); refused = λ k. letters-nil }
+pub returns-in_default : goal.returns-in_default
+returns-in_default c = record { given = λ k. absurd (c.in_default.ensures.0 k); refused = λ k. letters-nil }
 
-pub slice-bounds-result-end-2 : goal.slice-bounds-result-end-2
-slice-bounds-result-end-2 c = let t = c.args.self.now in omega (arith, (boundary_back t.bytes.now c.args.end (utf8_had _ t.formed) c.in-Ok.ensures.end).0)
+pub slice_bounds-result-end-2 : goal.slice_bounds-result-end-2
+slice_bounds-result-end-2 c = let t = c.args.self.now in omega (arith, (boundary_back t.bytes.now c.args.end (utf8_had _ t.formed) c.in-Ok.ensures.end).0)
 
-pub invariant-of-result-2 : goal.invariant-of-result-2
-invariant-of-result-2 c =
+pub invariant_of-result-2 : goal.invariant_of-result-2
+invariant_of-result-2 c =
     let t = c.args.self.now in
     let bs = t.bytes.now in
     let a = c.args.start in

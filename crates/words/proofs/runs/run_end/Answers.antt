@@ -3,4 +3,4 @@ use Rattle.words.proofs.Scan.{through_run}
 use Rattle.words.proofs.runs.run_end.Goals as goal
 
 pub loop-at-preserved : goal.loop-at-preserved
-loop-at-preserved c = (omega arith, through_run c.args.bytes.now c.args.from c.loop-at.at c.loop-at-test.true (sym c.if-not-is-space.ensures) ∙ c.loop-at.invariant.1)
+loop-at-preserved c = (omega arith, through_run c.args.bytes.now c.args.from c.loop-at.at c.loop-at-test.true (sym c.if-not-is_space.ensures) ∙ c.loop-at.invariant.1)

@@ -5,26 +5,26 @@ use Rattle.words.proofs.Longest.{all_runs}
 use Rattle.words.proofs.Bounded.{Wanted, wanted, Given, rwords_length, rwords_put, rwords_put_cut}
 use Rattle.words.proofs.split.rsplit_whitespace.Goals as goal
 
-pub returns-in-err-n : goal.returns-in-err-n
-returns-in-err-n g c =
+pub returns-in_err-n : goal.returns-in_err-n
+returns-in_err-n g c =
     let bytes = concat (g.S.AnyStr.elements c.args.text.now) in
-    let total = c.run-count-total.result in
+    let total = c.run_count-total.result in
     let a = c.alone-alone.result in
     let m = c.min.result in
-    let w : Wanted (runs bytes) c.args.maxsplit total a m = wanted c.run-count-total.ensures.value c.ranges.maxsplit c.alone-alone.ensures c.min.ensures in
+    let w : Wanted (runs bytes) c.args.maxsplit total a m = wanted c.run_count-total.ensures.value c.ranges.maxsplit c.alone-alone.ensures c.min.ensures in
     let l : length (rwords_of (runs bytes) c.args.maxsplit) ≡ m = rwords_length (runs bytes) c.args.maxsplit total a m w in
     record { value = search rules; law = all_runs bytes }
 
 pub returns-then-alone-total : goal.returns-then-alone-total
 returns-then-alone-total g c =
     let bytes = concat (g.S.AnyStr.elements c.args.text.now) in
-    let total = c.run-count-total.result in
+    let total = c.run_count-total.result in
     let a = c.alone-alone.result in
     let m = c.min.result in
-    let w : Wanted (runs bytes) c.args.maxsplit total a m = wanted c.run-count-total.ensures.value c.ranges.maxsplit c.alone-alone.ensures c.min.ensures in
+    let w : Wanted (runs bytes) c.args.maxsplit total a m = wanted c.run_count-total.ensures.value c.ranges.maxsplit c.alone-alone.ensures c.min.ensures in
     let list = c.args.places.now in
-    let n = c.in-ok-n.n in
-    let room = c.in-ok-n.ensures in
+    let n = c.in_ok-n.n in
+    let room = c.in_ok-n.ensures in
     let given : Given m (length list) n = record { is = grind arith; fits = grind arith } in
     record {
       value = rwords_put_cut (runs bytes) c.args.maxsplit total a m w list c.write.new.places n given c.write.ensures c.if-alone-total.true;
@@ -34,13 +34,13 @@ returns-then-alone-total g c =
 pub returns-else-alone-total : goal.returns-else-alone-total
 returns-else-alone-total g c =
     let bytes = concat (g.S.AnyStr.elements c.args.text.now) in
-    let total = c.run-count-total.result in
+    let total = c.run_count-total.result in
     let a = c.alone-alone.result in
     let m = c.min.result in
-    let w : Wanted (runs bytes) c.args.maxsplit total a m = wanted c.run-count-total.ensures.value c.ranges.maxsplit c.alone-alone.ensures c.min.ensures in
+    let w : Wanted (runs bytes) c.args.maxsplit total a m = wanted c.run_count-total.ensures.value c.ranges.maxsplit c.alone-alone.ensures c.min.ensures in
     let list = c.args.places.now in
-    let n = c.in-ok-n.n in
-    let room = c.in-ok-n.ensures in
+    let n = c.in_ok-n.n in
+    let room = c.in_ok-n.ensures in
     let given : Given m (length list) n = record { is = grind arith; fits = grind arith } in
     record {
       value = rwords_put (runs bytes) c.args.maxsplit total a m w list c.write.new.places n given c.write.ensures c.if-alone-total.false;

@@ -2,8 +2,8 @@ use Rattle.std.proofs.Common.{sym, ◌∙◌}
 use mathlib.Core.Bool.{false≢true}
 use Rattle.bytesets.proofs.asciiset.AsciiSet.new.Goals as goal
 
-pub invariant-of-result : goal.invariant-of-result
-invariant-of-result c = (λ b h. absurd (false≢true (sym (c.new.ensures b) ∙ h)), tt)
+pub invariant_of-result : goal.invariant_of-result
+invariant_of-result c = (λ b h. absurd (false≢true (sym (c.new.ensures b) ∙ h)), tt)
 
-pub invariant-of-result-2 : goal.invariant-of-result-2
-invariant-of-result-2 c = (λ b h. c.in-Ok.ensures b (sym (c.new-2.ensures b) ∙ h), tt)
+pub invariant_of-result-2 : goal.invariant_of-result-2
+invariant_of-result-2 c = (λ b h. c.in-Ok.ensures b (sym (c.new-2.ensures b) ∙ h), tt)

@@ -9,6 +9,6 @@ pub returns : goal.returns
 returns c =
     let bs = c.args.text.now.bytes.now in
     let marks = single (member c.args.self.now.has) in
-    let r = c.first-mark.result in
-    let h = finds_in marks c.as-bytes.result.now (concat (singles bs)) c.as-bytes.ensures c.args.from r c.first-mark.ensures in
+    let r = c.first_mark.result in
+    let h = finds_in marks c.as_bytes.result.now (concat (singles bs)) c.as_bytes.ensures c.args.from r c.first_mark.ensures in
     record { value = h; cut = finds_on (singles bs) (marks (concat (singles bs))) c.args.from r (bytes_on bs (member c.args.self.now.has)) h }

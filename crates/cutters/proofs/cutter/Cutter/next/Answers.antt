@@ -24,21 +24,21 @@ returns-then-not-fewer g c =
       cut = λ b. let r = rest-on es k.place _ c.last.result l.value (λ i. (l.after i).place) b in (r.0, subst (λ t. Boundary (g.S.AnyStr.elements t) c.last.new.self.place) (sym l.same.text) r.1);
     }
 
-pub returns-in-default : goal.returns-in-default
-returns-in-default g c =
+pub returns-in_default : goal.returns-in_default
+returns-in_default g c =
     let k = c.args.self.now in
     let es = g.S.AnyStr.elements k.text in
     let on = sheet g.row.F-Searcher.marks g.S.AnyStr.elements k in
     let law = g.row.F-Searcher.lawful k.searcher es in
-    let l = c.last-in-default.ensures in
+    let l = c.last-in_default.ensures in
     record {
-      step = rest-step on law k.place k.made k.spent c.if-self.false (none_found on law k.made k.place c.in-default.ensures.value) _ _ l.value l.after;
+      step = rest-step on law k.place k.made k.spent c.if-self.false (none_found on law k.made k.place c.in_default.ensures.value) _ _ l.value l.after;
       same = l.same;
-      cut = λ b. let r = rest-on es k.place _ c.last-in-default.result l.value (λ i. (l.after i).place) b in (r.0, subst (λ t. Boundary (g.S.AnyStr.elements t) c.last-in-default.new.self.place) (sym l.same.text) r.1);
+      cut = λ b. let r = rest-on es k.place _ c.last-in_default.result l.value (λ i. (l.after i).place) b in (r.0, subst (λ t. Boundary (g.S.AnyStr.elements t) c.last-in_default.new.self.place) (sym l.same.text) r.1);
     }
 
-pub invariant-of-self : goal.invariant-of-self
-invariant-of-self g c =
+pub invariant_of-self : goal.invariant_of-self
+invariant_of-self g c =
     let k = c.args.self.now in
     let es = g.S.AnyStr.elements k.text in
     let law = g.row.F-Searcher.lawful k.searcher es in

@@ -22,9 +22,9 @@ returns g c =
     let all = needed (sheet g.row.F-Searcher.marks g.S.AnyStr.elements k) (concat (g.S.AnyStr.elements c.args.to.now)) (state k) in
     let spare = g.T.AnyStrContainer.spare c.args.tray.now in
     let fits : length all ≤ length spare = omega (arith, c.if-free-needed.false, c.free.ensures, c.measure-needed.ensures) in
-    let p = c.pour-pieces.ensures in
+    let p = c.pour_pieces.ensures in
     record {
       step = ((c.if-self.false, fits, p.held, omega (arith, ap length p.spare, length-drop (length all) spare), p.after), p.spare);
       same = p.same;
-      cut = λ b. subst (λ t. Boundary (g.S.AnyStr.elements t) c.pour-pieces.new.self.place) (sym p.same.text) (subst (Boundary es) (λ i. (sym p.after i).place) (end_on es));
+      cut = λ b. subst (λ t. Boundary (g.S.AnyStr.elements t) c.pour_pieces.new.self.place) (sym p.same.text) (subst (Boundary es) (λ i. (sym p.after i).place) (end_on es));
     }

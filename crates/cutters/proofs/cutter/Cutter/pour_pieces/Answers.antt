@@ -20,7 +20,7 @@ append-requires g c =
     let p = span c.in-Some.piece in
     let st = step_on marks elements k here after p c.loop-piece.invariant.3 c.in-Some.ensures.step in
     let bytes = concat (singles c.new.result.bytes.now) in
-    let is = piece_bytes _ c.stretch.result.now c.as-bytes-bytes.result.now (concat (elements k.text)) p.0 p.1 c.stretch.ensures c.as-bytes-bytes.ensures (g.S.AnyStr.few k.text) c.new.ensures.given in
+    let is = piece_bytes _ c.stretch.result.now c.as_bytes-bytes.result.now (concat (elements k.text)) p.0 p.1 c.stretch.ensures c.as_bytes-bytes.ensures (g.S.AnyStr.few k.text) c.new.ensures.given in
     piece-fits on law (concat (elements c.args.to.now)) (state here) (state after) p st _ _ _ _ _ c.loop-piece.invariant.0 bytes is
 
 pub append-requires-then-not-self : goal.append-requires-then-not-self
@@ -35,7 +35,7 @@ append-requires-then-not-self g c =
     let p = span c.in-Some.piece in
     let st = step_on marks elements k here after p c.loop-piece.invariant.3 c.in-Some.ensures.step in
     let bytes = concat (singles c.new.result.bytes.now) in
-    let is = piece_bytes _ c.stretch.result.now c.as-bytes-bytes.result.now (concat (elements k.text)) p.0 p.1 c.stretch.ensures c.as-bytes-bytes.ensures (g.S.AnyStr.few k.text) c.new.ensures.given in
+    let is = piece_bytes _ c.stretch.result.now c.as_bytes-bytes.result.now (concat (elements k.text)) p.0 p.1 c.stretch.ensures c.as_bytes-bytes.ensures (g.S.AnyStr.few k.text) c.new.ensures.given in
     gap_fits on law (concat (elements c.args.to.now)) (state here) (state after) p st _ _ _ _ _ c.loop-piece.invariant.0 bytes is (g.T.AnyStrContainer.held c.append.new.tray) (g.T.AnyStrContainer.spare c.append.new.tray) c.append.ensures.held c.append.ensures.spare c.if-not-self.true
 
 pub loop-piece-smaller-then-not-self : goal.loop-piece-smaller-then-not-self
@@ -64,7 +64,7 @@ loop-piece-preserved-then-not-self g c =
     let p = span c.in-Some.piece in
     let st = step_on marks elements k here after p c.loop-piece.invariant.3 c.in-Some.ensures.step in
     let bytes = concat (singles c.new.result.bytes.now) in
-    let is = piece_bytes _ c.stretch.result.now c.as-bytes-bytes.result.now (concat (elements k.text)) p.0 p.1 c.stretch.ensures c.as-bytes-bytes.ensures (g.S.AnyStr.few k.text) c.new.ensures.given in
+    let is = piece_bytes _ c.stretch.result.now c.as_bytes-bytes.result.now (concat (elements k.text)) p.0 p.1 c.stretch.ensures c.as_bytes-bytes.ensures (g.S.AnyStr.few k.text) c.new.ensures.given in
     let one = gave on law here.place here.made here.spent p (state after) st in (
       gap_poured on law (concat (elements c.args.to.now)) (state here) (state after) p st _ _ _ _ _ c.loop-piece.invariant.0 bytes is (g.T.AnyStrContainer.held c.append.new.tray) (g.T.AnyStrContainer.spare c.append.new.tray) c.append.ensures.held c.append.ensures.spare c.if-not-self.true _ _ c.append-then-not-self.ensures.held c.append-then-not-self.ensures.spare,
       sym one.made_all ∙ c.loop-piece.invariant.1,
@@ -84,7 +84,7 @@ loop-piece-preserved g c =
     let p = span c.in-Some.piece in
     let st = step_on marks elements k here after p c.loop-piece.invariant.3 c.in-Some.ensures.step in
     let bytes = concat (singles c.new.result.bytes.now) in
-    let is = piece_bytes _ c.stretch.result.now c.as-bytes-bytes.result.now (concat (elements k.text)) p.0 p.1 c.stretch.ensures c.as-bytes-bytes.ensures (g.S.AnyStr.few k.text) c.new.ensures.given in
+    let is = piece_bytes _ c.stretch.result.now c.as_bytes-bytes.result.now (concat (elements k.text)) p.0 p.1 c.stretch.ensures c.as_bytes-bytes.ensures (g.S.AnyStr.few k.text) c.new.ensures.given in
     let one = gave on law here.place here.made here.spent p (state after) st in (
       last-poured on law (concat (elements c.args.to.now)) (state here) (state after) p st _ _ _ _ _ c.loop-piece.invariant.0 bytes is (g.T.AnyStrContainer.held c.append.new.tray) (g.T.AnyStrContainer.spare c.append.new.tray) c.append.ensures.held c.append.ensures.spare c.if-not-self.false,
       sym one.made_all ∙ c.loop-piece.invariant.1,

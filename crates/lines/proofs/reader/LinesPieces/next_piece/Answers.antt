@@ -10,13 +10,13 @@ returns-then-rest g c =
 pub returns-then-self : goal.returns-then-self
 returns-then-self g c =
     let s = c.args.self.now in
-    let n = c.in-ok-piece.ensures in
+    let n = c.in_ok-piece.ensures in
     with_end g.S.AnyStr.elements s.keepends s.cutter c.next.new.self c.rest-rest.result c.rest-rest.ensures.step.0 c.if-rest.false n.same
-    c.in-ok-piece.piece n.step c.if-self.true c.rest.result _ c.rest.ensures.step.0
+    c.in_ok-piece.piece n.step c.if-self.true c.rest.result _ c.rest.ensures.step.0
 
 pub returns-else-self : goal.returns-else-self
 returns-else-self g c =
     let s = c.args.self.now in
-    let n = c.in-ok-piece.ensures in
+    let n = c.in_ok-piece.ensures in
     without_end g.S.AnyStr.elements s.keepends s.cutter c.next.new.self c.rest-rest.result c.rest-rest.ensures.step.0 c.if-rest.false n.same
-    c.in-ok-piece.piece n.step c.if-self.false
+    c.in_ok-piece.piece n.step c.if-self.false

@@ -20,19 +20,19 @@ returns-then-not-fewer g c =
     let one = back_used on law k.place k.made k.spent c.if-self.false end refl used in
     last-left g.row.F-Searcher.marks g.S.AnyStr.elements k c.last.new.self (0, end) (span c.last.result) one c.last.ensures.value c.last.ensures.spent
 
-pub returns-in-default : goal.returns-in-default
-returns-in-default g c =
+pub returns-in_default : goal.returns-in_default
+returns-in_default g c =
     let k = c.args.self.now in
     let on = sheet g.row.F-Searcher.marks g.S.AnyStr.elements k in
     let law = g.row.F-Searcher.lawful k.searcher (g.S.AnyStr.elements k.text) in
     let r = c.rest-place.result in
     let end : r.end ≡ min k.place (size on) = λ i. (c.rest-place.ensures i).1 in
-    let one = back_none on law k.place k.made k.spent c.if-self.false r.end end c.in-default.ensures.value in
-    let same : span c.last-in-default.result ≡ (0, r.end) = c.last-in-default.ensures.value ∙ (λ i. (0, sym end i)) in
-    last-left g.row.F-Searcher.marks g.S.AnyStr.elements k c.last-in-default.new.self (0, r.end) (span c.last-in-default.result) one same c.last-in-default.ensures.spent
+    let one = back_none on law k.place k.made k.spent c.if-self.false r.end end c.in_default.ensures.value in
+    let same : span c.last-in_default.result ≡ (0, r.end) = c.last-in_default.ensures.value ∙ (λ i. (0, sym end i)) in
+    last-left g.row.F-Searcher.marks g.S.AnyStr.elements k c.last-in_default.new.self (0, r.end) (span c.last-in_default.result) one same c.last-in_default.ensures.spent
 
-pub invariant-of-self : goal.invariant-of-self
-invariant-of-self g c =
+pub invariant_of-self : goal.invariant_of-self
+invariant_of-self g c =
     let k = c.args.self.now in
     let on = sheet g.row.F-Searcher.marks g.S.AnyStr.elements k in
     let law = g.row.F-Searcher.lawful k.searcher (g.S.AnyStr.elements k.text) in
