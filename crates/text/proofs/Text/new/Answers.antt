@@ -5,10 +5,10 @@ use Rattle.text.proofs.Letters.{letters-nil}
 use Rattle.text.proofs.Text.new.Goals as goal
 
 pub invariant_of-result : goal.invariant_of-result
-invariant_of-result c = (omega arith, (∣ formed-from_utf8 [] IsUtf8-nil ∣₁, tt))
+invariant_of-result c = record { few = omega arith; formed = ∣ formed-from_utf8 [] IsUtf8-nil ∣₁ }
 
 pub invariant_of-result-2 : goal.invariant_of-result-2
-invariant_of-result-2 c = let k = c.in-Ok.ensures.cases in (k.0, (∣ k.1 ∣₁, tt))
+invariant_of-result-2 c = let k = c.in-Ok.ensures.cases in record { few = k.0; formed = ∣ k.1 ∣₁ }
 
 pub returns-in_default : goal.returns-in_default
 returns-in_default c = record {

@@ -8,7 +8,7 @@ use Rattle.text.proofs.Letters.{part-letters}
 use Rattle.text.proofs.TextAnyStr.get_bytes.Goals as goal
 
 pub invariant_of-result : goal.invariant_of-result
-invariant_of-result c = (omega arith, (∣ formed-from_utf8 [] IsUtf8-nil ∣₁, tt))
+invariant_of-result c = record { few = omega arith; formed = ∣ formed-from_utf8 [] IsUtf8-nil ∣₁ }
 
 pub returns-in_default : goal.returns-in_default
 returns-in_default c = record { given = λ k. absurd (c.in_default.ensures.0 k); refused = λ k. letters-nil }
@@ -26,7 +26,7 @@ invariant_of-result-2 c =
     let k = c.in-Ok.ensures in
     let f : length bs ≤ most_bytes = t.few in
     let l : length (take (b - a) (drop a bs)) ≤ most_bytes = omega (arith, length-take (b - a) (drop a bs), length-drop a bs) in
-    (l, (∣ formed-from_utf8 _ (IsUtf8-between bs a b u k.order (boundary_back bs a u k.start) (boundary_back bs b u k.end)) ∣₁, tt))
+    record { few = l; formed = ∣ formed-from_utf8 _ (IsUtf8-between bs a b u k.order (boundary_back bs a u k.start) (boundary_back bs b u k.end)) ∣₁ }
 
 pub returns : goal.returns
 returns c =

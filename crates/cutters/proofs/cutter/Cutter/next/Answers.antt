@@ -49,7 +49,7 @@ invariant_of-self g c =
     let few = g.S.AnyStr.few k.text in
     let behind = k.behind c.if-self.false in
     let more : k.made + 1 ≤ c.in-Some.mark.end = omega arith in
-    (omega arith, ((λ _. more), tt))
+    record { few = omega arith; behind = λ _. more }
 
 pub returns : goal.returns
 returns g c =

@@ -11,7 +11,7 @@ invariant_of-self g c =
     let l = c.args.self.now in
     let bs = c.as_bytes-bytes.result.now in
     let p = pushed l.bytes bs bs c.copy_from_slice.new.self l.len l.len (omega arith) refl c.copy_from_slice.ensures.after (omega arith) in
-    (omega (arith, length-drop l.len l.bytes), (p.2 ∙ clear l.bytes label_bytes l.len (length bs) l.clear, tt))
+    record { fits = omega (arith, length-drop l.len l.bytes); clear = p.2 ∙ clear l.bytes label_bytes l.len (length bs) l.clear }
 
 pub returns : goal.returns
 returns g c =

@@ -41,7 +41,7 @@ invariant_of-self g c =
     let long = law.nonempty _ _ m.is in
     let end : c.rest-place.result.end ≡ min k.place (size on) = λ i. (c.rest-place.ensures i).1 in
     let few = k.few in
-    (omega arith, tt)
+    record { few = omega arith }
 
 pub returns : goal.returns
 returns g c =
