@@ -4,28 +4,30 @@ use Rattle.std.specs.Option.{option_map}
 use Rattle.std.specs.List.{concat}
 use Rattle.anystr.specs.Elements.{Boundary}
 use Rattle.anystr.specs.Refusals.{code}
+use Rattle.anystr.specs.declared.anystr.AnyStr
 use Rattle.anystr.specs.declared.refusal.Refusal.{Refusal}
 use Rattle.searchers.specs.Marks.{Marks, Span}
 use Rattle.searchers.specs.declared.mark.Mark.{Mark}
+use Rattle.searchers.specs.declared.searcher.Searcher
 use Rattle.cuts.specs.Cuts.{Sheet, cut_from, State, at}
 use Rattle.cuts.specs.Runs.{Step, next, skip, rest, pours, pour_refused, needed}
 use Rattle.cutters.specs.declared.cutter.Cutter.{Cutter}
 use Rattle.cutters.specs.declared.piece.Piece.{Piece}
 
-module _ {S F C : Type 0} where
+module _ {S F C : Type 0} {s : AnyStr.Ghosts S C} {f : Searcher.Ghosts F S C} where
   -- what a cutter was opened on, by the meanings of its searcher and of its text
-  abbrev pub sheet : (F → List (List ℕ) → Marks) → (S → List (List ℕ)) → Cutter S F C → Sheet
+  abbrev pub sheet : (F → List (List ℕ) → Marks) → (S → List (List ℕ)) → Cutter S F C s f → Sheet
   sheet marks elements c = record { marks = marks c.searcher (elements c.text); bytes = concat (elements c.text); bound = c.bound }
 
-  abbrev pub state : Cutter S F C → State
+  abbrev pub state : Cutter S F C s f → State
   state c = at c.place c.made c.spent
 
   -- a cutter's place is a boundary
-  abbrev pub Placed : (S → List (List ℕ)) → Cutter S F C → Type 0
+  abbrev pub Placed : (S → List (List ℕ)) → Cutter S F C s f → Type 0
   Placed elements c = Boundary (elements c.text) c.place
 
   -- text, searcher and bound are as they were
-  pub record SameSheet (c d : Cutter S F C) : Type 0 where
+  pub record SameSheet (c d : Cutter S F C s f) : Type 0 where
     pub text : d.text ≡ c.text
     pub searcher : d.searcher ≡ c.searcher
     pub bound : d.bound ≡ c.bound
@@ -48,22 +50,22 @@ abbrev pub pour_code : Option ℕ → ℕ × ℕ
 pour_code None = (8, 0)
 pour_code (Some n) = (7, n)
 
-module _ {S F C : Type 0} (marks : F → List (List ℕ) → Marks) (elements : S → List (List ℕ)) where
+module _ {S F C : Type 0} {s : AnyStr.Ghosts S C} {f : Searcher.Ghosts F S C} (marks : F → List (List ℕ) → Marks) (elements : S → List (List ℕ)) where
   -- next's answer on a cutter, and the cutter after it
-  abbrev pub Nexts : Cutter S F C → Option Piece → Cutter S F C → Type 0
+  abbrev pub Nexts : Cutter S F C s f → Option Piece → Cutter S F C s f → Type 0
   Nexts c r d = Step (sheet marks elements c) (state c) (next (option_map span r)) (state d)
 
   -- rest's answer; the cutter stays
-  abbrev pub Rests : Cutter S F C → Piece → Type 0
+  abbrev pub Rests : Cutter S F C s f → Piece → Type 0
   Rests c r = Step (sheet marks elements c) (state c) (rest (span r)) (state c)
 
   -- skip's answer, and the cutter after it
-  abbrev pub Skips : {X : Type 0} → Cutter S F C → ℕ → Result X Refusal → Cutter S F C → Type 0
+  abbrev pub Skips : {X : Type 0} → Cutter S F C s f → ℕ → Result X Refusal → Cutter S F C s f → Type 0
   Skips c n (Ok _) d = Step (sheet marks elements c) (state c) (skip n None) (state d)
   Skips c n (Err e) d = (left : ℕ) × (code e ≡ (9, left)) × Step (sheet marks elements c) (state c) (skip n (Some left)) (state d)
 
   -- pour's answer, with the tray before it and after it, and the cutter after it
-  abbrev pub Pours : {X Tray : Type 0} → (held spare : Tray → List ℕ) → Cutter S F C → S → Tray → Result X Refusal → Cutter S F C → Tray → Type 0
+  abbrev pub Pours : {X Tray : Type 0} → (held spare : Tray → List ℕ) → Cutter S F C s f → S → Tray → Result X Refusal → Cutter S F C s f → Tray → Type 0
   Pours held spare c to tray (Ok _) d tray' =
       Step (sheet marks elements c) (state c) (pours (concat (elements to)) (held tray) (length (spare tray)) (held tray') (length (spare tray'))) (state d)
       × (spare tray' ≡ drop (length (needed (sheet marks elements c) (concat (elements to)) (state c))) (spare tray))

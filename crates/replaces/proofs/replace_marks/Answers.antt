@@ -20,8 +20,8 @@ returns-in-Err-TooSmall g c =
     let told : code (TooSmall c.in-Err-TooSmall.needed) ≡ (7, length (cut_out es from to (to_z w64 (of_z w64 bound)))) = cc e.1 in
     too_long (Unit {0}) _ (held c.args.tray.now) (spare c.args.tray.now) (held c.pour_cuts.new.tray) (spare c.pour_cuts.new.tray) (cut_out es from to (to_z w64 (of_z w64 bound))) c.in-Err-TooSmall.needed same c.if-needed-gt-MAX_RESULT.true (e.0, told, e.2, e.3)
 
-pub returns-in_default·3 : goal.returns-in_default·3
-returns-in_default·3 g c =
+pub returns-in_default-3 : goal.returns-in_default-3
+returns-in_default-3 g c =
     let text = c.args.text.now in
     let es = g.S.AnyStr.elements text in
     let from = concat (g.S.AnyStr.elements c.args.from.now) in

@@ -14,12 +14,12 @@ use Rattle.cutters.proofs.play.play.Goals as goal
 
 pub loop-i-init : goal.loop-i-init
 loop-i-init g c =
-    let on = sheet g.row.F-Searcher.marks g.S.AnyStr.elements c.open-cutter.result in
+    let on = sheet g.F.Searcher.marks g.S.AnyStr.elements c.open-cutter.result in
     (([], subst (λ (s : State). Run on opened [] s) (sym c.open-cutter.ensures.state) runs.none, plays.none), refl, record { text = refl; searcher = refl; bound = refl })
 
 pub loop-i-preserved : goal.loop-i-preserved
 loop-i-preserved g c =
-    let marks = g.row.F-Searcher.marks in
+    let marks = g.F.Searcher.marks in
     let elements = g.S.AnyStr.elements in
     let first = c.open-cutter.result in
     let here = c.loop-i.cutter in
@@ -41,15 +41,15 @@ loop-i-preserved g c =
 pub returns : goal.returns
 returns g c =
     let first = c.open-cutter.result in
-    let on = sheet g.row.F-Searcher.marks g.S.AnyStr.elements first in
+    let on = sheet g.F.Searcher.marks g.S.AnyStr.elements first in
     let inv = c.loop-i.invariant in
     let calls = c.args.calls.now in
     let n : ℕ = length calls in
     let all : n ≡ c.loop-i.i = omega (arith, c.loop-i.auto.i-end, c.loop-i-test.false) in
     let ens = c.open-cutter.ensures in
     let bound : first.bound ≡ c.args.bound = ens.on.2 ∙ to_z-of_z w64 c.args.bound c.ranges.bound in
-    let same : on ≡ opened_on (g.row.F-Searcher.marks c.args.searcher) (g.S.AnyStr.elements c.args.text) c.args.bound =
-    λ i. record { marks = g.row.F-Searcher.marks (ens.on.1 i) (g.S.AnyStr.elements (ens.on.0 i)); bytes = concat (g.S.AnyStr.elements (ens.on.0 i)); bound = bound i } in
+    let same : on ≡ opened_on (g.F.Searcher.marks c.args.searcher) (g.S.AnyStr.elements c.args.text) c.args.bound =
+    λ i. record { marks = g.F.Searcher.marks (ens.on.1 i) (g.S.AnyStr.elements (ens.on.0 i)); bytes = concat (g.S.AnyStr.elements (ens.on.0 i)); bound = bound i } in
     let told = plays_at (sym (take_all c.loop-i.i calls (omega arith))) (ap (λ (k : ℕ). take k c.loop-i.answers) all) inv.0.2 in
     let played : Played g.S.AnyStr.elements on calls (take n c.loop-i.answers) (g.T.AnyStrContainer.held c.args.tray.now) (length (g.T.AnyStrContainer.spare c.args.tray.now)) (g.T.AnyStrContainer.held c.loop-i.tray) (length (g.T.AnyStrContainer.spare c.loop-i.tray)) =
     record { events = inv.0.0; at_last = state c.loop-i.cutter; run = inv.0.1; told = told; law = ens.law _ _ inv.0.1 } in (

@@ -12,11 +12,11 @@ returns-then-not-fewer g c =
     let k = c.args.self.now in
     let fits : SFits w64 k.bound = search rules in
     let used : fewer c.args.made k.bound ≡ false = ap (fewer c.args.made) (sym (to_z-of_z w64 k.bound fits)) ∙ sym c.if-not-fewer.ensures in
-    used_up (sheet g.row.F-Searcher.marks g.S.AnyStr.elements k) (g.row.F-Searcher.lawful k.searcher (g.S.AnyStr.elements k.text)) c.args.made c.args.place used
+    used_up (sheet g.F.Searcher.marks g.S.AnyStr.elements k) (g.F.Searcher.lawful k.searcher (g.S.AnyStr.elements k.text)) c.args.made c.args.place used
 
 pub returns : goal.returns
 returns g c =
     let k = c.args.self.now in
     let fits : SFits w64 k.bound = search rules in
     let more : fewer c.args.made k.bound ≡ true = ap (fewer c.args.made) (sym (to_z-of_z w64 k.bound fits)) ∙ sym c.if-not-fewer.ensures in
-    cuts-next (sheet g.row.F-Searcher.marks g.S.AnyStr.elements k) (g.row.F-Searcher.lawful k.searcher (g.S.AnyStr.elements k.text)) c.args.made c.args.place (truth _ more) c.find.result c.find.ensures.value
+    cuts-next (sheet g.F.Searcher.marks g.S.AnyStr.elements k) (g.F.Searcher.lawful k.searcher (g.S.AnyStr.elements k.text)) c.args.made c.args.place (truth _ more) c.find.result c.find.ensures.value

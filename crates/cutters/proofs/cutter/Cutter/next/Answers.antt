@@ -13,8 +13,8 @@ pub returns-then-not-fewer : goal.returns-then-not-fewer
 returns-then-not-fewer g c =
     let k = c.args.self.now in
     let es = g.S.AnyStr.elements k.text in
-    let on = sheet g.row.F-Searcher.marks g.S.AnyStr.elements k in
-    let law = g.row.F-Searcher.lawful k.searcher es in
+    let on = sheet g.F.Searcher.marks g.S.AnyStr.elements k in
+    let law = g.F.Searcher.lawful k.searcher es in
     let fits : SFits w64 k.bound = search rules in
     let used : fewer k.made k.bound ≡ _ = ap (fewer k.made) (sym (to_z-of_z w64 k.bound fits)) ∙ sym c.if-not-fewer.ensures in
     let l = c.last.ensures in
@@ -28,8 +28,8 @@ pub returns-in_default : goal.returns-in_default
 returns-in_default g c =
     let k = c.args.self.now in
     let es = g.S.AnyStr.elements k.text in
-    let on = sheet g.row.F-Searcher.marks g.S.AnyStr.elements k in
-    let law = g.row.F-Searcher.lawful k.searcher es in
+    let on = sheet g.F.Searcher.marks g.S.AnyStr.elements k in
+    let law = g.F.Searcher.lawful k.searcher es in
     let l = c.last-in_default.ensures in
     record {
       step = rest-step on law k.place k.made k.spent c.if-self.false (none_found on law k.made k.place c.in_default.ensures.value) _ _ l.value l.after;
@@ -41,7 +41,7 @@ pub invariant_of-self : goal.invariant_of-self
 invariant_of-self g c =
     let k = c.args.self.now in
     let es = g.S.AnyStr.elements k.text in
-    let law = g.row.F-Searcher.lawful k.searcher es in
+    let law = g.F.Searcher.lawful k.searcher es in
     let m = c.in-Some.ensures.value in
     let from = m.after in
     let long = law.nonempty _ _ m.is in
@@ -55,8 +55,8 @@ pub returns : goal.returns
 returns g c =
     let k = c.args.self.now in
     let es = g.S.AnyStr.elements k.text in
-    let on = sheet g.row.F-Searcher.marks g.S.AnyStr.elements k in
-    let law = g.row.F-Searcher.lawful k.searcher es in
+    let on = sheet g.F.Searcher.marks g.S.AnyStr.elements k in
+    let law = g.F.Searcher.lawful k.searcher es in
     let fits : SFits w64 k.bound = search rules in
     let more : fewer k.made k.bound ≡ true = ap (fewer k.made) (sym (to_z-of_z w64 k.bound fits)) ∙ sym c.if-not-fewer.ensures in
     let m = c.in-Some.ensures in

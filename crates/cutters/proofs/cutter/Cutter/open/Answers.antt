@@ -11,6 +11,6 @@ returns g c =
     record {
       on = (refl, refl, same);
       state = refl;
-      law = runs-law _ (g.row.F-Searcher.lawful f es);
+      law = runs-law _ (g.F.Searcher.lawful f es);
       cut = (0, refl);
     }

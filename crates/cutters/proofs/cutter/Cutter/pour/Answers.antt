@@ -19,7 +19,7 @@ pub returns : goal.returns
 returns g c =
     let k = c.args.self.now in
     let es = g.S.AnyStr.elements k.text in
-    let all = needed (sheet g.row.F-Searcher.marks g.S.AnyStr.elements k) (concat (g.S.AnyStr.elements c.args.to.now)) (state k) in
+    let all = needed (sheet g.F.Searcher.marks g.S.AnyStr.elements k) (concat (g.S.AnyStr.elements c.args.to.now)) (state k) in
     let spare = g.T.AnyStrContainer.spare c.args.tray.now in
     let fits : length all ≤ length spare = omega (arith, c.if-free-needed.false, c.free.ensures, c.measure-needed.ensures) in
     let p = c.pour_pieces.ensures in

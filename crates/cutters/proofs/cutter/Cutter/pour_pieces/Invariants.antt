@@ -10,14 +10,14 @@ use Rattle.cutters.proofs.cutter.Cutter.pour_pieces.Given as goal
 abbrev pub invariant-loop-piece : goal.invariant-loop-piece
 invariant-loop-piece g l =
     Pouring (g.T.AnyStrContainer.held l.tray) (g.T.AnyStrContainer.spare l.tray)
-    (to_pour (sheet g.row.F-Searcher.marks g.S.AnyStr.elements l.initial.self) (concat (g.S.AnyStr.elements l.to)) (state l.self))
-    (g.T.AnyStrContainer.held l.initial.tray ++ to_pour (sheet g.row.F-Searcher.marks g.S.AnyStr.elements l.initial.self) (concat (g.S.AnyStr.elements l.to)) (state l.initial.self))
+    (to_pour (sheet g.F.Searcher.marks g.S.AnyStr.elements l.initial.self) (concat (g.S.AnyStr.elements l.to)) (state l.self))
+    (g.T.AnyStrContainer.held l.initial.tray ++ to_pour (sheet g.F.Searcher.marks g.S.AnyStr.elements l.initial.self) (concat (g.S.AnyStr.elements l.to)) (state l.initial.self))
     (g.T.AnyStrContainer.spare l.initial.tray)
-    (length (to_pour (sheet g.row.F-Searcher.marks g.S.AnyStr.elements l.initial.self) (concat (g.S.AnyStr.elements l.to)) (state l.initial.self)))
-    × (l.self.made + length (to_cut (sheet g.row.F-Searcher.marks g.S.AnyStr.elements l.initial.self) (state l.self))
-    ≡ l.initial.self.made + length (to_cut (sheet g.row.F-Searcher.marks g.S.AnyStr.elements l.initial.self) (state l.initial.self)))
-    × (l.self.spent ≡ true → l.self.place ≡ size (sheet g.row.F-Searcher.marks g.S.AnyStr.elements l.initial.self))
+    (length (to_pour (sheet g.F.Searcher.marks g.S.AnyStr.elements l.initial.self) (concat (g.S.AnyStr.elements l.to)) (state l.initial.self)))
+    × (l.self.made + length (to_cut (sheet g.F.Searcher.marks g.S.AnyStr.elements l.initial.self) (state l.self))
+    ≡ l.initial.self.made + length (to_cut (sheet g.F.Searcher.marks g.S.AnyStr.elements l.initial.self) (state l.initial.self)))
+    × (l.self.spent ≡ true → l.self.place ≡ size (sheet g.F.Searcher.marks g.S.AnyStr.elements l.initial.self))
     × SameSheet l.initial.self l.self
 
 abbrev pub decreases-loop-piece : goal.decreases-loop-piece
-decreases-loop-piece g l = length (pieces_left (sheet g.row.F-Searcher.marks g.S.AnyStr.elements l.initial.self) (state l.self))
+decreases-loop-piece g l = length (pieces_left (sheet g.F.Searcher.marks g.S.AnyStr.elements l.initial.self) (state l.self))

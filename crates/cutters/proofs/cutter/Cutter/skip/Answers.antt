@@ -12,10 +12,10 @@ loop-done-preserved g c =
     let after = c.next.new.self in
     let n : ℕ = c.loop-done.done in
     let inv = c.loop-done.invariant in
-    let on = sheet g.row.F-Searcher.marks g.S.AnyStr.elements k in
-    let law = g.row.F-Searcher.lawful k.searcher (g.S.AnyStr.elements k.text) in
+    let on = sheet g.F.Searcher.marks g.S.AnyStr.elements k in
+    let law = g.F.Searcher.lawful k.searcher (g.S.AnyStr.elements k.text) in
     let e = c.in-Some.ensures in
-    let st = step_on g.row.F-Searcher.marks g.S.AnyStr.elements k here after (span c.in-Some.field-0) inv.2 e.step in
+    let st = step_on g.F.Searcher.marks g.S.AnyStr.elements k here after (span c.in-Some.field-0) inv.2 e.step in
     let one = (gave on law here.place here.made here.spent _ (state after) st).left in (
       st.1 ∙ ((λ i. (next_of on (inv.0 i)).1) ∙ (sym (nexts-more on n (state k)) ∙ (λ i. nexts on (sym (add-one n) i) (state k)))),
       omega (arith, inv.1),

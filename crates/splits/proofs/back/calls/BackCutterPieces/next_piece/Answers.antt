@@ -12,30 +12,30 @@ use Rattle.splits.proofs.back.calls.BackCutterPieces.next_piece.Goals as goal
 pub returns-then-not-fewer : goal.returns-then-not-fewer
 returns-then-not-fewer g c =
     let k = c.args.self.now in
-    let on = sheet g.row.F-Searcher.marks g.S.AnyStr.elements k in
-    let law = g.row.F-Searcher.lawful k.searcher (g.S.AnyStr.elements k.text) in
+    let on = sheet g.F.Searcher.marks g.S.AnyStr.elements k in
+    let law = g.F.Searcher.lawful k.searcher (g.S.AnyStr.elements k.text) in
     let fits : SFits w64 k.bound = search rules in
     let used : fewer k.made k.bound ≡ false = ap (fewer k.made) (sym (to_z-of_z w64 k.bound fits)) ∙ sym c.if-not-fewer.ensures in
     let end = min k.place (size on) in
     let one = back_used on law k.place k.made k.spent c.if-self.false end refl used in
-    last-left g.row.F-Searcher.marks g.S.AnyStr.elements k c.last.new.self (0, end) (span c.last.result) one c.last.ensures.value c.last.ensures.spent
+    last-left g.F.Searcher.marks g.S.AnyStr.elements k c.last.new.self (0, end) (span c.last.result) one c.last.ensures.value c.last.ensures.spent
 
 pub returns-in_default : goal.returns-in_default
 returns-in_default g c =
     let k = c.args.self.now in
-    let on = sheet g.row.F-Searcher.marks g.S.AnyStr.elements k in
-    let law = g.row.F-Searcher.lawful k.searcher (g.S.AnyStr.elements k.text) in
+    let on = sheet g.F.Searcher.marks g.S.AnyStr.elements k in
+    let law = g.F.Searcher.lawful k.searcher (g.S.AnyStr.elements k.text) in
     let r = c.rest-place.result in
     let end : r.end ≡ min k.place (size on) = λ i. (c.rest-place.ensures i).1 in
     let one = back_none on law k.place k.made k.spent c.if-self.false r.end end c.in_default.ensures.value in
     let same : span c.last-in_default.result ≡ (0, r.end) = c.last-in_default.ensures.value ∙ (λ i. (0, sym end i)) in
-    last-left g.row.F-Searcher.marks g.S.AnyStr.elements k c.last-in_default.new.self (0, r.end) (span c.last-in_default.result) one same c.last-in_default.ensures.spent
+    last-left g.F.Searcher.marks g.S.AnyStr.elements k c.last-in_default.new.self (0, r.end) (span c.last-in_default.result) one same c.last-in_default.ensures.spent
 
 pub invariant_of-self : goal.invariant_of-self
 invariant_of-self g c =
     let k = c.args.self.now in
-    let on = sheet g.row.F-Searcher.marks g.S.AnyStr.elements k in
-    let law = g.row.F-Searcher.lawful k.searcher (g.S.AnyStr.elements k.text) in
+    let on = sheet g.F.Searcher.marks g.S.AnyStr.elements k in
+    let law = g.F.Searcher.lawful k.searcher (g.S.AnyStr.elements k.text) in
     let m = c.in-Some.ensures.value in
     let ahead = m.ahead in
     let long = law.nonempty _ _ m.is in
@@ -46,8 +46,8 @@ invariant_of-self g c =
 pub returns : goal.returns
 returns g c =
     let k = c.args.self.now in
-    let on = sheet g.row.F-Searcher.marks g.S.AnyStr.elements k in
-    let law = g.row.F-Searcher.lawful k.searcher (g.S.AnyStr.elements k.text) in
+    let on = sheet g.F.Searcher.marks g.S.AnyStr.elements k in
+    let law = g.F.Searcher.lawful k.searcher (g.S.AnyStr.elements k.text) in
     let fits : SFits w64 k.bound = search rules in
     let more : fewer k.made k.bound ≡ true = ap (fewer k.made) (sym (to_z-of_z w64 k.bound fits)) ∙ sym c.if-not-fewer.ensures in
     let m = c.in-Some.ensures.value in
