@@ -13,7 +13,7 @@ returns-then-places-gt-MAX_PLACES g c = record {
 
 pub returns-in_err-needed : goal.returns-in_err-needed
 returns-in_err-needed g c =
-    let p = err_from_is_err_and c.from-residual.result c.from-residual.ensures.1 in
+    let p = err_from_is_err_and c.from_residual.result c.from_residual.ensures.1 in
     record {
       filled = rw (not_many (concat (g.S.AnyStr.elements c.args.sep.now)) (g.S.AnyStr.elements c.args.text.now) c.args.places.now c.if-places-gt-MAX_PLACES.false, p.1, p.2) (refuses _ _ _ _ _ _ _ c.in_err-needed.ensures);
       law = join_law _ _ _;

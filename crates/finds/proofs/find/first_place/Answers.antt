@@ -18,7 +18,7 @@ returns-in_err-mark c =
     let n = c.args.needle.now.bytes.now in
     let needle = ap (λ t. concat (singles t.bytes.now)) c.new.ensures ∙ concat-singles n in
     let part = got_part bs c.get_bytes-part.result.bytes.now c.args.start c.args.end c.if-start-end.false c.requires c.get_bytes-part.ensures.given in
-    rw c.from-residual.ensures
+    rw c.from_residual.ensures
     (not_found bs n c.args.end c.requires c.args.start c.if-start-end.false (some n c.if-is_empty.ensures)
     (subst (λ (ms : Marks). NoneFrom ms 0) (λ i. occurrence (needle i) (part i)) c.in_err-mark.ensures.value))
 

@@ -15,7 +15,7 @@ returns-in_err-n g c =
     let e = c.in_err-n.field-0.0 in
     let there : Lists (Ok qs) list list' (Err e) = search rules in
     let here = accepted sep (reverse qs) list list' (Err e) c.in_ok-check.ensures (turned-refused qs list list' e there) in
-    let p = err_from_is_err_and c.from-residual-in_err-n.result c.from-residual-in_err-n.ensures.1 in
+    let p = err_from_is_err_and c.from_residual-in_err-n.result c.from_residual-in_err-n.ensures.1 in
     rw (p.1, p.2) (record { list = here; rule = tt; restores = tt; cut = tt })
 
 pub returns : goal.returns

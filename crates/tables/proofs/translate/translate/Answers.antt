@@ -11,7 +11,7 @@ use Rattle.tables.proofs.Translated.{answered, result-is}
 use Rattle.tables.proofs.Waiting.{Waiting, done, done-within, turn_gone, turn_here, waiting_fits, waiting_at, flushed_to, waiting_all, too_small}
 use Rattle.tables.proofs.translate.translate.Given as given
 use Rattle.tables.proofs.translate.translate.Goals as goal
-use Rattle.tables.proofs.translate.translate.Goals.{Joined-not-gone-b, then-not-gone-b, else-not-gone-b, at·flush_full-len-requires, at·loop-b-again}
+use Rattle.tables.proofs.translate.translate.Goals.{Joined-not-gone-b, then-not-gone-b, else-not-gone-b}
 
 pub loop-d-init : goal.loop-d-init
 loop-d-init g c = (refl, λ b. none_in 256 b)
