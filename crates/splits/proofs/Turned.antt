@@ -1,18 +1,37 @@
 -- A list of places that is turned round.
 use Rattle.std.proofs.Common.{◌≡◌, ℕ, ◌-◌, ◌<◌, List, [], ◌∷◌, ◌++◌, map, reverse, length, take, drop, ℤ, Ok, Err, Result, sym, refl, ap, ◌∙◌, arith}
 use mathlib.Core.List.{reverse-cons}
+use Rattle.std.specs.List.{concat}
 use Rattle.std.proofs.lemmas.List.{map_push, length-map, length-reverse, take_at, drop_at}
 use Rattle.anystr.specs.Places.{Lists, stretch, stretches}
+use Rattle.anystr.specs.declared.anystr.AnyStr
 use Rattle.anystr.specs.declared.place.Place.{Place}
 use Rattle.anystr.specs.declared.refusal.Refusal.{Refusal}
-use Rattle.searchers.specs.Marks.{Span}
+use Rattle.searchers.specs.Marks.{Marks, Span}
+use Rattle.searchers.specs.declared.searcher.Searcher
 use Rattle.substring.specs.Occurrences.{occurrence}
-use Rattle.cuts.specs.Splits.{pieces_of, flip, mirror}
+use Rattle.substring.specs.declared.Substring.{Substring}
+use Rattle.cuts.specs.Cuts.{opened}
+use Rattle.cuts.specs.Splits.{pieces_of, flip, mirror, left_back}
+use Rattle.splits.specs.Back.{sheet, state}
 use Rattle.splits.specs.Separated.{separated}
+use Rattle.splits.specs.declared.back.BackCutter.{BackCutter}
 
 -- the places between the separators that are cut from the end, as they come
 abbrev pub from_back : (bytes sep : List ℕ) → ℤ → List Span
 from_back bytes sep maxsplit = map (flip (length bytes)) (pieces_of (mirror (occurrence sep bytes) (length bytes)) (length bytes) maxsplit)
+
+-- what a cutter from the end has left where it has just been opened
+module _ {S C : Type 0} (elements : S → List (List ℕ)) where
+  abbrev found : Substring S C → List (List ℕ) → Marks
+  found f es = occurrence (concat (elements f.needle)) (concat es)
+
+  pub opened-left : {s : AnyStr.Ghosts S C} {f : Searcher.Ghosts (Substring S C) S C} (c : BackCutter S (Substring S C) C s f) (text sep : S) (searcher : Substring S C) (bound : ℤ)
+      → c.text ≡ text → c.searcher ≡ searcher → c.bound ≡ bound → state elements c ≡ opened → searcher.needle ≡ sep
+      → left_back (sheet found elements c) (state elements c) ≡ from_back (concat (elements text)) (concat (elements sep)) bound
+  opened-left c text sep searcher bound on for upto at_first needle =
+      (λ i. left_back (record { marks = found (for i) (elements (on i)); bytes = concat (elements (on i)); bound = upto i }) (at_first i))
+      ∙ (λ i. from_back (concat (elements text)) (concat (elements (needle i))) bound)
 
 stretches-reverse : (ps : List Place) → stretches (reverse ps) ≡ reverse (stretches ps)
 stretches-reverse [] = refl
