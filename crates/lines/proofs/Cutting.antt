@@ -1,9 +1,9 @@
--- The lines that a cutter at line ends has left, call by call.
+-- The lines that a cutter has left, call by call.
 use Rattle.std.proofs.Common.{◌≡◌, ℕ, ◌<◌, ◌≤◌, Bool, true, false, cond, List, [], ◌∷◌, Some, sym, ap, ◌∙◌, arith}
 use Rattle.std.specs.List.{concat}
-use Rattle.searchers.specs.Marks.{Span}
-use Rattle.lineends.specs.Lines.{line_end, line_end-lawful}
-use Rattle.lineends.specs.declared.LineEnds.{LineEnds}
+use Rattle.anystr.specs.declared.anystr.AnyStr
+use Rattle.searchers.specs.Marks.{Marks, Lawful, Span}
+use Rattle.searchers.specs.declared.searcher.Searcher
 use Rattle.cuts.specs.Cuts.{Sheet, size}
 use Rattle.cuts.specs.Runs.{Step, next}
 use Rattle.cutters.specs.Calls.{sheet, state, span, SameSheet}
@@ -13,21 +13,21 @@ use Rattle.cutters.proofs.Same.{same_sheet}
 use Rattle.lines.specs.Lines.{lines_left}
 use Rattle.lines.proofs.Step.{none_left, line-more}
 
-module _ {S C : Type 0} (elements : S → List (List ℕ)) (keep : Bool) where
-  abbrev on : Cutter S LineEnds C → Sheet
-  on c = sheet (λ _ es. line_end (concat es)) elements c
+module _ {S F C : Type 0} {s : AnyStr.Ghosts S C} {f : Searcher.Ghosts F S C} (marks : F → List (List ℕ) → Marks) (elements : S → List (List ℕ)) (keep : Bool) where
+  abbrev on : Cutter S F C s f → Sheet
+  on c = sheet marks elements c
 
-  abbrev left : Cutter S LineEnds C → List Span
+  abbrev left : Cutter S F C s f → List Span
   left c = lines_left (on c) keep (state c)
 
   -- with nothing but an empty rest there is no line
-  pub none-at_end : (c : Cutter S LineEnds C) (rest : Piece) → span rest ≡ (c.place, size (on c)) → rest.end ≤ rest.start → left c ≡ []
-  none-at_end c rest is past =
+  pub none-at_end : (c : Cutter S F C s f) → Lawful (marks c.searcher (elements c.text)) (size (on c)) → (rest : Piece) → span rest ≡ (c.place, size (on c)) → rest.end ≤ rest.start → left c ≡ []
+  none-at_end c law rest is past =
       let start : rest.start ≡ c.place = λ i. (is i).0 in
       let end : rest.end ≡ size (on c) = λ i. (is i).1 in
-      none_left (on c) (line_end-lawful (concat (elements c.text))) keep c.place c.made c.spent (omega arith)
+      none_left (on c) law keep c.place c.made c.spent (omega arith)
 
-  module _ (c d : Cutter S LineEnds C) (rest : Piece) (is : span rest ≡ (c.place, size (on c))) (some : rest.start < rest.end) (same : SameSheet c d) where
+  module _ (c d : Cutter S F C s f) (law : Lawful (marks c.searcher (elements c.text)) (size (on c))) (rest : Piece) (is : span rest ≡ (c.place, size (on c))) (some : rest.start < rest.end) (same : SameSheet c d) where
     within : c.place < size (on c)
     within =
         let start : rest.start ≡ c.place = λ i. (is i).0 in
@@ -35,11 +35,11 @@ module _ {S C : Type 0} (elements : S → List (List ℕ)) (keep : Bool) where
         omega arith
 
     left-same : lines_left (on c) keep (state d) ≡ left d
-    left-same = ap (λ (o : Sheet). lines_left o keep (state d)) (sym (same_sheet (λ _ es. line_end (concat es)) elements c d same))
+    left-same = ap (λ (o : Sheet). lines_left o keep (state d)) (sym (same_sheet marks elements c d same))
 
     module _ (p : Piece) (step : Step (on c) (state c) (next (Some (span p))) (state d)) where
       more : left c ≡ (p.start, cond keep d.place p.end) ∷ left d
-      more = line-more (on c) (line_end-lawful (concat (elements c.text))) keep c.place c.made c.spent (span p) (state d) within step
+      more = line-more (on c) law keep c.place c.made c.spent (span p) (state d) within step
           ∙ ap (λ (ls : List Span). (p.start, cond keep d.place p.end) ∷ ls) left-same
 
       -- with its end a line goes on to the new place

@@ -1,7 +1,7 @@
 -- The lines of a text, without and with their ends. Assumes nothing.
 use Rattle.std.specs.Prelude.{◌≡◌, ℕ, ◌<◌, ◌≤◌, Bool, cond, List, [], ◌∷◌, ◌++◌, length, negsuc, ◌≢◌, nat_lt, slice_index}
 use Rattle.anystr.specs.Places.{part}
-use Rattle.searchers.specs.Marks.{Span}
+use Rattle.searchers.specs.Marks.{Marks, Span}
 use Rattle.lineends.specs.Lines.{line_end, LineEnd}
 use Rattle.cuts.specs.Cuts.{Sheet, size, State, all_marks, cuts, between, pieces_left}
 
@@ -25,9 +25,13 @@ kept len (p ∷ ps) = (p.0, start_of len ps) ∷ kept len ps
 abbrev pub lines_from : Bool → ℕ → List Span → List Span
 lines_from keepends len ps = cond keepends (kept len (filled ps)) (filled ps)
 
+-- the lines of a text of `len` bytes, where these marks end them
+abbrev pub lines_at : Marks → ℕ → Bool → List Span
+lines_at marks len keepends = lines_from keepends len (between 0 len (cuts (negsuc 0) 0 0 (all_marks marks len)))
+
 -- the lines of a text: the pieces between its line ends
 abbrev pub lines_of : List ℕ → Bool → List Span
-lines_of bytes keepends = lines_from keepends (length bytes) (between 0 (length bytes) (cuts (negsuc 0) 0 0 (all_marks (line_end bytes) (length bytes))))
+lines_of bytes keepends = lines_at (line_end bytes) (length bytes) keepends
 
 -- the lines that a cutter has left
 abbrev pub lines_left : Sheet → Bool → State → List Span

@@ -8,6 +8,7 @@ ghost use Rattle.lines.specs.Lines.{lines_of, LinesLaw};
 
 use anystr::place::Place;
 use anystr::refusal::Refusal;
+use lineends::LineEnds;
 use pieces::fill::{count, fill, room};
 use searchers::ascii::AsciiStr;
 
@@ -32,7 +33,10 @@ pub fn splitlines<S: AsciiStr>(
     ensures value { Lists (Ok (lines_of (concat (S.AnyStr.elements text.now)) args.keepends)) places.old places.new result }
     ensures law { LinesLaw (concat (S.AnyStr.elements text.now)) (lines_of (concat (S.AnyStr.elements text.now)) false) (lines_of (concat (S.AnyStr.elements text.now)) true) }
 {
-    let n = room(count(&mut Lines::new(*text, args.keepends)), places)?;
-    fill(&mut Lines::new(*text, args.keepends), places);
+    let n = room(
+        count(&mut Lines::new(*text, LineEnds, args.keepends)),
+        places,
+    )?;
+    fill(&mut Lines::new(*text, LineEnds, args.keepends), places);
     Ok(n)
 }

@@ -1,46 +1,45 @@
-// The lines of a text, one after another.
+// The pieces of a text without an empty last one, one after another.
 ghost use Rattle.std.specs.Prelude.{◌≡◌, suc, length};
 ghost use Rattle.std.specs.List.{concat};
 ghost use Rattle.anystr.specs.Limits.{most_bytes};
-ghost use Rattle.lineends.specs.Lines.{line_end, line_end-lawful};
 ghost use Rattle.cuts.specs.Cuts.{pieces_left};
 ghost use Rattle.cuts.proofs.Sizes.{pieces-few};
 ghost use Rattle.cutters.specs.Calls.{sheet, state};
-ghost use Rattle.lines.specs.Lines.{lines_left, lines_of};
+ghost use Rattle.lines.specs.Lines.{lines_left, lines_at};
 ghost use Rattle.lines.specs.Few.{lines-few};
 
+use anystr::anystr::AnyStr;
 use cutters::cutter::Cutter;
 use cutters::piece::Piece;
-use lineends::LineEnds;
 use pieces::source::Pieces;
-use searchers::ascii::AsciiStr;
+use searchers::searcher::Searcher;
 
 // no bound on the cuts
 const UNBOUNDED: i64 = -1;
 
-// The lines that a cutter at line ends has left.
+// The lines that a cutter has left, at whatever marks end them.
 #[derive(Drop)]
-pub struct Lines<S: AsciiStr> {
-    cutter: Cutter<S, LineEnds>,
+pub struct Lines<S: AnyStr, F: Searcher<S>> {
+    cutter: Cutter<S, F>,
     keepends: bool,
 }
 
-impl<S: AsciiStr> Lines<S> {
+impl<S: AnyStr, F: Searcher<S>> Lines<S, F> {
     // All the lines of a text.
-    pub fn new(text: S, keepends: bool) -> Lines<S>
-        ensures { lines_left (sheet (λ _ es. line_end (concat es)) S.AnyStr.elements result.cutter) result.keepends (state result.cutter) ≡ lines_of (concat (S.AnyStr.elements text)) keepends }
+    pub fn new(text: S, ends: F, keepends: bool) -> Lines<S, F>
+        ensures { lines_left (sheet F.Searcher.marks S.AnyStr.elements result.cutter) result.keepends (state result.cutter) ≡ lines_at (F.Searcher.marks ends (S.AnyStr.elements text)) (length (concat (S.AnyStr.elements text))) keepends }
     {
         Lines {
-            cutter: Cutter::open(text, LineEnds, UNBOUNDED),
+            cutter: Cutter::open(text, ends, UNBOUNDED),
             keepends,
         }
     }
 }
 
-impl<S: AsciiStr> Pieces for Lines<S> {
-    ghost left = { λ s. lines_left (sheet (λ _ es. line_end (concat es)) S.AnyStr.elements s.cutter) s.keepends (state s.cutter) };
+impl<S: AnyStr, F: Searcher<S>> Pieces for Lines<S, F> {
+    ghost left = { λ s. lines_left (sheet F.Searcher.marks S.AnyStr.elements s.cutter) s.keepends (state s.cutter) };
 
-    ghost few = { λ s. lines-few s.keepends (length (concat (S.AnyStr.elements s.cutter.text))) (suc most_bytes) (pieces_left (sheet (λ _ es. line_end (concat es)) S.AnyStr.elements s.cutter) (state s.cutter)) (pieces-few (sheet (λ _ es. line_end (concat es)) S.AnyStr.elements s.cutter) (line_end-lawful (concat (S.AnyStr.elements s.cutter.text))) (S.AnyStr.few s.cutter.text) (state s.cutter)) };
+    ghost few = { λ s. lines-few s.keepends (length (concat (S.AnyStr.elements s.cutter.text))) (suc most_bytes) (pieces_left (sheet F.Searcher.marks S.AnyStr.elements s.cutter) (state s.cutter)) (pieces-few (sheet F.Searcher.marks S.AnyStr.elements s.cutter) (F.Searcher.lawful s.cutter.searcher (S.AnyStr.elements s.cutter.text)) (S.AnyStr.few s.cutter.text) (state s.cutter)) };
 
     // With its end a line goes on to where the cutter stands after it.
     fn next_piece(&mut self) -> Option<Piece> {
