@@ -6,11 +6,13 @@ use Rattle.std.specs.List.{concat}
 use Rattle.std.proofs.lemmas.Bool.{ltb-false}
 use Rattle.anystr.specs.Elements.{Filled}
 use Rattle.anystr.specs.Limits.{most_bytes}
+use Rattle.anystr.specs.declared.anystr.AnyStr
 use Rattle.anystr.specs.declared.optional.OptionalArg.{OptionalArg}
 use Rattle.anystr.specs.declared.optional.OptionalArg.TheVariants.{Present}
 use Rattle.anystr.specs.declared.refusal.Refusal.{Refusal}
 use Rattle.anystr.specs.declared.refusal.Refusal.TheVariants.{TooSmall, ResultTooLong}
 use Rattle.searchers.specs.Marks.{Marks}
+use Rattle.searchers.specs.declared.searcher.Searcher
 use Rattle.trays.specs.Trays.{Pushed, Fills}
 use Rattle.cuts.specs.Cuts.{opened, State, cut_from, poured}
 use Rattle.cuts.specs.Runs.{needed}
@@ -21,7 +23,7 @@ use Rattle.replaces.proofs.Law.{at-elements, spread-within, cut-within, short, i
 use Rattle.replaces.proofs.Spreading.{spread-copies, spread-size}
 
 -- a pour from a cutter just opened
-pub pour-pushed : {S F C X Tray : Type 0} (marks : F → List (List ℕ) → Marks) (elements : S → List (List ℕ)) (held spare : Tray → List ℕ) (c : Cutter S F C) (to : S) (tray : Tray) (r : Result X Refusal) (d : Cutter S F C) (tray' : Tray)
+pub pour-pushed : {S F C X Tray : Type 0} {s : AnyStr.Ghosts S C} {f : Searcher.Ghosts F S C} (marks : F → List (List ℕ) → Marks) (elements : S → List (List ℕ)) (held spare : Tray → List ℕ) (c : Cutter S F C s f) (to : S) (tray : Tray) (r : Result X Refusal) (d : Cutter S F C s f) (tray' : Tray)
     → state c ≡ opened → Pours marks elements held spare c to tray r d tray'
     → Pushed (poured (concat (elements c.text)) (concat (elements to)) 0 (cut_from (sheet marks elements c) 0 0)) (held tray) (spare tray) (held tray') (spare tray') r
 pour-pushed marks elements held spare c to tray (Ok x) d tray' new p =

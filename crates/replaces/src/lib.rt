@@ -4,7 +4,7 @@
 ghost use Rattle.std.specs.Prelude.{◌≡◌, suc, ◌≤◌, ◌++◌, length, drop, pos};
 ghost use Rattle.std.specs.List.{concat};
 ghost use Rattle.trays.specs.Trays.{Pushed, Fills};
-ghost use Rattle.replaces.specs.Replaces.{bound_of, spread, copies as CopiesOf, cut_out, if_short, replace_of, ReplaceLaw};
+ghost use Rattle.replaces.specs.Replaces.{bound_of, spread, copies as copies_of, cut_out, if_short, replace_of, ReplaceLaw};
 
 use anystr::anystr::AnyStr;
 use anystr::optional::OptionalArg;
@@ -51,7 +51,7 @@ fn replace_marks<S: AnyStr, T: AnyStrContainer>(
 
 // The copies of `to` before the elements of a text and at its end.
 fn copies<S: AnyStr>(text: &S, bound: i64) -> u64
-    ensures { result ≡ CopiesOf (length (S.AnyStr.elements text.now)) bound }
+    ensures { result ≡ copies_of (length (S.AnyStr.elements text.now)) bound }
 {
     let gaps = text.element_count() as u64 + 1;
     if bound < 0 {

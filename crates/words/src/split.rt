@@ -4,7 +4,7 @@ ghost use Rattle.std.specs.List.{concat};
 ghost use Rattle.anystr.specs.Limits.{most_bytes};
 ghost use Rattle.anystr.specs.Places.{Lists};
 ghost use Rattle.pieces.specs.Sources.{Filled};
-ghost use Rattle.words.specs.Words.{runs, alone as AloneOf, words_of, rwords_of, AllRuns};
+ghost use Rattle.words.specs.Words.{runs, alone as alone_of, words_of, rwords_of, AllRuns};
 
 use super::runs::Runs;
 use anystr::anystr::AnyStr;
@@ -22,7 +22,7 @@ fn run_count<S: AnyStr>(text: &S) -> usize
 
 // How many of the runs stay by themselves; a negative bound is none.
 fn alone(total: usize, maxsplit: i64) -> usize
-    ensures { result ≡ AloneOf total maxsplit }
+    ensures { result ≡ alone_of total maxsplit }
 {
     if maxsplit < 0 {
         total

@@ -46,4 +46,4 @@ returns g c =
     let to = concat (g.S.AnyStr.elements c.args.to.now) in
     let sum = spread-sum es to c.args.copies _ _ c.requires c.bytes_len.ensures c.bytes_len-2.ensures in
     let short : length (spread to (pos c.args.copies) 0 es) ≤ most_result = omega (arith, sum, c.if-needed-gt-MAX_RESULT.false) in
-    rw (is-short (spread to (pos c.args.copies) 0 es) short) (omega (arith, sum, c.if-free-needed.false, c.free.ensures), c.spread-copies.ensures.held, c.spread-copies.ensures.spare)
+    rw (is-short (spread to (pos c.args.copies) 0 es) short) (omega (arith, sum, c.if-free-needed.false, c.free.ensures), c.spread_copies.ensures.held, c.spread_copies.ensures.spare)
