@@ -21,6 +21,7 @@ use help::HELP;
 use page::Page;
 use sheet::show_sheet;
 use std::io::{BufWriter, Read, Write};
+use std::process::ExitCode;
 use std::{env, io};
 use task::{Method, Task, read_task};
 use text::Text;
@@ -128,10 +129,12 @@ fn run(rt: &HostRuntime) -> Result<(), Trouble> {
     run_on(rt, words.as_slice())
 }
 
-fn main(rt: HostRuntime) -> Result<(), Trouble> {
-    let result = run(&rt);
-    if let Err(trouble) = &result {
-        let _ = eprintln!(rt; "chart: {trouble}");
+fn main(rt: HostRuntime) -> ExitCode {
+    match run(&rt) {
+        Ok(()) => ExitCode::SUCCESS,
+        Err(trouble) => {
+            let _ = eprintln!(rt; "chart: {trouble}");
+            ExitCode::FAILURE
+        }
     }
-    result
 }

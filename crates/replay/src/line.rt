@@ -161,7 +161,7 @@ impl<'a> Words<'a> {
     // A number that may be absent.
     pub fn optional_integer(&mut self) -> Option<i64> {
         let word = self.word();
-        if word == ABSENT {
+        if word == ABSENT.as_slice() {
             None
         } else {
             Some(self.integer_of(word))
@@ -190,7 +190,7 @@ impl<'a> Words<'a> {
     // A byte string that may be absent.
     pub fn optional_bytes(&mut self) -> Option<Vec<u8>> {
         let word = self.word();
-        if word == ABSENT {
+        if word == ABSENT.as_slice() {
             None
         } else {
             Some(self.bytes_of(word))

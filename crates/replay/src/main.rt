@@ -19,6 +19,7 @@ mod trouble;
 
 use session::Session;
 use std::io::{BufRead, BufReader, BufWriter, Write};
+use std::process::ExitCode;
 use trouble::Trouble;
 
 fn replay(rt: &HostRuntime, session: &mut Session, out: &mut impl Write) -> Result<(), Trouble> {
@@ -35,10 +36,12 @@ fn run(rt: &HostRuntime) -> Result<(), Trouble> {
     replay(rt, &mut session, &mut out)
 }
 
-fn main(rt: HostRuntime) -> Result<(), Trouble> {
-    let result = run(&rt);
-    if let Err(trouble) = &result {
-        let _ = eprintln!(rt; "replay: {trouble}");
+fn main(rt: HostRuntime) -> ExitCode {
+    match run(&rt) {
+        Ok(()) => ExitCode::SUCCESS,
+        Err(trouble) => {
+            let _ = eprintln!(rt; "replay: {trouble}");
+            ExitCode::FAILURE
+        }
     }
-    result
 }

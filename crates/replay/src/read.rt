@@ -43,7 +43,7 @@ fn place(pair: &[u8], words: &mut Words<'_>) -> Place {
 fn places(words: &mut Words<'_>) -> Vec<Place> {
     let mut places = Vec::new(words.heap);
     let word = words.word();
-    if word == NO_PLACES {
+    if word == NO_PLACES.as_slice() {
         return places;
     }
     for pair in Words::new(word, b',', words.heap) {
