@@ -47,7 +47,8 @@ impl Page {
     // A word and a number.
     pub fn add_number(&mut self, word: &[u8], n: u64) {
         self.add(word);
-        match n.to_string(self.line.allocator()) {
+        let heap = *self.line.allocator();
+        match n.to_string(heap) {
             Ok(digits) => self.add(digits.as_bytes()),
             Err(_) => self.note_shortage(),
         }
