@@ -1,5 +1,5 @@
 -- The marks that are still to be cut, by what a searcher answers.
-use Rattle.std.proofs.Common.{◌≡◌, ℕ, zero, suc, ◌+◌, ◌<◌, ◌≤◌, Bool, true, false, cond, T, leb, List, [], ◌∷◌, ◌++◌, ℤ, Some, refl, ap, ◌∙◌, ⊎_elim, arith}
+use Rattle.std.proofs.Common.{◌≡◌, ℕ, zero, suc, ◌+◌, ◌<◌, ◌≤◌, Bool, true, false, cond, leb, List, [], ◌∷◌, ◌++◌, ℤ, Some, refl, ap, ◌∙◌, ⊎_elim, arith}
 use Rattle.std.proofs.lemmas.Bool.{cond-false, lt-leb, and_left, and_right, cases_lt}
 use Rattle.searchers.specs.Marks.{Marks, Span, Lawful, Least, NoneFrom}
 use Rattle.cuts.specs.Cuts.{Sheet, size, cut_from, begun, listed, fewer, cuts, at, after_cut, next_of}

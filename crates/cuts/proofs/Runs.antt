@@ -1,5 +1,5 @@
 -- What holds of a cutter after every list of calls. Assumes nothing.
-use Rattle.std.proofs.Common.{◌≡◌, ℕ, suc, ◌+◌, true, false, List, [], ◌∷◌, ◌++◌, length, Some, None, Option, sym, refl, ap, ◌∙◌, subst, true≢false, append-nil, arith}
+use Rattle.std.proofs.Common.{◌≡◌, ℕ, suc, ◌+◌, false, List, [], ◌∷◌, ◌++◌, length, Some, None, Option, sym, refl, ap, ◌∙◌, subst, true≢false, append-nil, arith}
 use Rattle.searchers.specs.Marks.{Span, Lawful}
 use Rattle.cuts.specs.Cuts.{Sheet, size, cut_from, State, at, opened, to_cut}
 use Rattle.cuts.specs.Runs.{Cut, marks_of, Lie, count, piece, Event, next, skip, rest, pours, pour_refused, Step, Run, none, more, done, Given, Answers, RunsLaw}

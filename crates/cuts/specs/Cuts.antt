@@ -1,5 +1,5 @@
 -- What a cutter's calls give, as functions that compute. Assumes nothing.
-use Rattle.std.specs.Prelude.{ℕ, zero, suc, ◌+◌, ◌-◌, Bool, true, false, cond, ◌&&◌, T, List, [], ◌∷◌, ◌++◌, length, take, drop, ℤ, pos, negsuc, Some, None, Option, nat_le, nat_lt}
+use Rattle.std.specs.Prelude.{ℕ, zero, suc, ◌-◌, Bool, true, false, cond, ◌&&◌, List, [], ◌∷◌, ◌++◌, length, take, drop, ℤ, pos, negsuc, Some, None, Option, nat_le, nat_lt}
 use Rattle.searchers.specs.Marks.{Marks, Span}
 
 -- the mark that begins at `a`, if one of the `n` ends from `e` on makes one

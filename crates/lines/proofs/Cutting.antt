@@ -1,6 +1,5 @@
 -- The lines that a cutter has left, call by call.
 use Rattle.std.proofs.Common.{◌≡◌, ℕ, ◌<◌, ◌≤◌, Bool, true, false, cond, List, [], ◌∷◌, Some, sym, ap, ◌∙◌, arith}
-use Rattle.std.specs.List.{concat}
 use Rattle.anystr.specs.declared.anystr.AnyStr
 use Rattle.searchers.specs.Marks.{Marks, Lawful, Span}
 use Rattle.searchers.specs.declared.searcher.Searcher

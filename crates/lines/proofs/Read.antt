@@ -4,7 +4,7 @@ use Rattle.std.proofs.lemmas.List.{drop-drop, take-append-drop, take_rest, drop_
 use Rattle.std.proofs.lemmas.Bool.{eq-eqb, ne_eqb, ltb-true, ltb-false, le-ltb, and_from, and_left, and_right, or_left, or_right, not_from_false, cases_lt, cases_eq, cond_both}
 use Rattle.searchers.specs.Marks.{Span}
 use Rattle.searchers.specs.Truth.{truth}
-use Rattle.lineends.specs.Lines.{cr, lf, line_end, LineEnd, pair, lone_cr, lone_lf, line_end-is, line_end-lawful, stands}
+use Rattle.lineends.specs.Lines.{cr, lf, line_end, LineEnd, pair, lone_cr, lone_lf, line_end-is, line_end-lawful}
 use Rattle.cuts.specs.Cuts.{between, cuts, all_marks}
 use Rattle.cuts.proofs.Greedy.{Greedy}
 use Rattle.cuts.proofs.Listed.{greedy_cuts}

@@ -42,9 +42,9 @@ fn eighty_bytes_into_a_label(rt: HostRuntime) -> Result<(), Fail> {
     assert_eq!(rt; label.free(), 0);
     assert!(rt; label.push_str(&Bytes::new(b"")).is_ok());
     match label.push_str(&Bytes::new(b"b")) {
-        Ok(()) => Err(Fail::new("a full label took a byte")),
-        Err(refusal) => check_eq(refusal.code(), (7, 1)),
-    }?;
+        Ok(()) => return Err(Fail::new("a full label took a byte")),
+        Err(refusal) => assert_eq!(rt; refusal.code(), (7, 1)),
+    };
     assert_eq!(rt; label.as_bytes(), &full[..]);
     Ok(())
 }

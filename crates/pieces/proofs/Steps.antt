@@ -1,5 +1,5 @@
 -- A cutter's next, as a source of pieces has it.
-use Rattle.std.proofs.Common.{◌≡◌, ℕ, Bool, true, false, Some, None, Option, sym, refl, ap, ◌∙◌}
+use Rattle.std.proofs.Common.{ℕ, Bool, true, false, Some, None, Option, refl, ap, ◌∙◌}
 use Rattle.std.specs.Option.{option_map}
 use Rattle.searchers.specs.Marks.{Lawful}
 use Rattle.cuts.specs.Cuts.{Sheet, size, State, at, pieces_left}

@@ -1,10 +1,9 @@
 -- Pieces that come one after another, and lists that are written from them.
-use Rattle.std.proofs.Common.{◌≡◌, ℕ, ◌+◌, ◌-◌, ◌<◌, ◌≤◌, List, [], ◌∷◌, ◌++◌, map, length, get_or, take, drop, set, Some, None, Ok, Option, sym, ap, ◌∙◌, subst, arith, length-drop}
+use Rattle.std.proofs.Common.{◌≡◌, ℕ, ◌+◌, ◌<◌, ◌≤◌, List, [], ◌∷◌, ◌++◌, length, get_or, take, drop, set, Some, None, Ok, Option, sym, ap, ◌∙◌, subst, arith, length-drop}
 use Rattle.std.proofs.lemmas.List.{drop-drop, take_more, drop_more, take_more_set, drop-set-lt, take_all, map-append, length_push}
 use Rattle.anystr.specs.Places.{Lists, stretch, stretches}
 use Rattle.anystr.specs.declared.place.Place.{Place}
 use Rattle.searchers.specs.Marks.{Span}
-use Rattle.cutters.specs.Calls.{span}
 use Rattle.cutters.specs.declared.piece.Piece.{Piece}
 use Rattle.pieces.specs.Sources.{Gives, Filled}
 

@@ -1,10 +1,8 @@
-// What the samples share: answers as plain numbers, and the check of one search.
+// What the samples share: answers as plain numbers.
 use anystr::anystr::AnyStr;
 use anystr::refusal::Refusal;
 use searchers::mark::Mark;
 use searchers::searcher::{ReverseSearcher, Searcher};
-use std::process::Abort;
-use std::test::Fail;
 
 // the code of a check that passes
 pub const PASSES: (u8, u64) = (0, 0);
@@ -26,28 +24,12 @@ fn span(mark: Option<Mark>) -> Span {
     }
 }
 
-pub fn finds<S: AnyStr, F: Searcher<S>>(
-    rt: &impl Abort,
-    searcher: &F,
-    text: &S,
-    from: usize,
-    mark: Span,
-) -> Result<(), Fail> {
-    assert_eq!(rt; span(searcher.find(text, from)), mark, "find from {from}");
-    Ok(())
+// What a searcher finds from an offset on.
+pub fn found<S: AnyStr, F: Searcher<S>>(searcher: &F, text: &S, from: usize) -> Span {
+    span(searcher.find(text, from))
 }
 
-pub fn rfinds<S: AnyStr, F: ReverseSearcher<S>>(
-    rt: &impl Abort,
-    searcher: &F,
-    text: &S,
-    before: usize,
-    mark: Span,
-) -> Result<(), Fail> {
-    assert_eq!(rt;
-        span(searcher.rfind(text, before)),
-        mark,
-        "rfind before {before}"
-    );
-    Ok(())
+// What it finds before an offset.
+pub fn rfound<S: AnyStr, F: ReverseSearcher<S>>(searcher: &F, text: &S, before: usize) -> Span {
+    span(searcher.rfind(text, before))
 }

@@ -8,7 +8,6 @@ use cutters::piece::Piece;
 use lineends::LineEnds;
 use searchers::searcher::Searcher;
 use std::process::Abort;
-use std::test::Fail;
 use substring::Substring;
 use text::Text;
 use trays::buffer::Buffer;
@@ -55,45 +54,31 @@ fn poured<S: AnyStr, F: Searcher<S>>(
     (answer, lent)
 }
 
-fn answers<S: AnyStr, F: Searcher<S>>(
-    rt: &impl Abort,
-    cutter: &mut Cutter<S, F>,
-    to: &S,
-    call: Call,
-) -> Result<(), Fail> {
+// Whether a call has its answer.
+fn answers<S: AnyStr, F: Searcher<S>>(cutter: &mut Cutter<S, F>, to: &S, call: Call) -> bool {
     match call {
-        Call::Next(piece) => {
-            assert_eq!(rt; span(cutter.next()), piece);
-            Ok(())
-        },
-        Call::Rest(start, end) => {
-            assert_eq!(rt; span(Some(cutter.rest())), Some((start, end)));
-            Ok(())
-        },
-        Call::Skip(n, answer) => {
-            assert_eq!(rt; code(cutter.skip(n)), answer);
-            Ok(())
-        },
+        Call::Next(piece) => span(cutter.next()) == piece,
+        Call::Rest(start, end) => span(Some(cutter.rest())) == Some((start, end)),
+        Call::Skip(n, answer) => code(cutter.skip(n)) == answer,
         Call::Pour(free, answer, after) => {
             let (said, lent) = poured(cutter, to, free);
-            assert_eq!(rt; said, answer);
-            assert_eq!(rt; &lent[..], after);
-            Ok(())
+            said == answer && lent.as_slice() == after
         }
     }
 }
 
-// Whether the calls, in turn, have their answers.
-fn runs<S: AnyStr, F: Searcher<S>>(
-    rt: &impl Abort,
+// The number, from 0, of the first of the calls, in turn, that has not its answer.
+fn wrong<S: AnyStr, F: Searcher<S>>(
     cutter: &mut Cutter<S, F>,
     to: &S,
     calls: &[Call],
-) -> Result<(), Fail> {
-    for call in calls {
-        answers(rt, cutter, to, *call)?;
+) -> Option<usize> {
+    for (i, call) in calls.iter().enumerate() {
+        if !answers(cutter, to, *call) {
+            return Some(i);
+        }
     }
-    Ok(())
+    None
 }
 
 // a text, a separator, a bound, what stands in its place, and calls
@@ -107,21 +92,19 @@ fn both(
     bound: i64,
     to: &'static [u8],
     calls: Calls,
-) -> Result<(), Fail> {
-    runs(
-        rt,
-        &mut Cutter::open(Bytes::new(text), Substring::new(Bytes::new(sep)), bound),
-        &Bytes::new(to),
-        calls,
-    )
-    .note(format_args!("Bytes {text:?} by {sep:?}, {bound}"))?;
-    runs(
-        rt,
-        &mut Cutter::open(Text::new(text), Substring::new(Text::new(sep)), bound),
-        &Text::new(to),
-        calls,
-    )
-    .note(format_args!("Text {text:?} by {sep:?}, {bound}"))
+) {
+    let mut bytes = Cutter::open(Bytes::new(text), Substring::new(Bytes::new(sep)), bound);
+    assert_eq!(rt;
+        wrong(&mut bytes, &Bytes::new(to), calls),
+        None,
+        "Bytes {text:?} by {sep:?}, {bound}"
+    );
+    let mut chars = Cutter::open(Text::new(text), Substring::new(Text::new(sep)), bound);
+    assert_eq!(rt;
+        wrong(&mut chars, &Text::new(to), calls),
+        None,
+        "Text {text:?} by {sep:?}, {bound}"
+    );
 }
 
 const SKIPS: [Run; 5] = [
@@ -190,11 +173,10 @@ const SKIPS: [Run; 5] = [
 ];
 
 #[test]
-fn skips(rt: HostRuntime) -> Result<(), Fail> {
+fn skips(rt: HostRuntime) {
     for (text, sep, bound, to, calls) in &SKIPS {
-        both(&rt, *text, *sep, *bound, *to, *calls)?;
+        both(&rt, *text, *sep, *bound, *to, *calls);
     }
-    Ok(())
 }
 
 // The pieces stand where those of CPython's bytes.split(sep, maxsplit) do.
@@ -312,11 +294,10 @@ const PIECES: [Run; 10] = [
 ];
 
 #[test]
-fn pieces(rt: HostRuntime) -> Result<(), Fail> {
+fn pieces(rt: HostRuntime) {
     for (text, sep, bound, to, calls) in &PIECES {
-        both(&rt, *text, *sep, *bound, *to, *calls)?;
+        both(&rt, *text, *sep, *bound, *to, *calls);
     }
-    Ok(())
 }
 
 // What is poured is CPython's bytes.replace(old, new, count) of the rest: into a tray too small, just large enough,
@@ -418,11 +399,10 @@ const POURS: [Run; 9] = [
 ];
 
 #[test]
-fn pours(rt: HostRuntime) -> Result<(), Fail> {
+fn pours(rt: HostRuntime) {
     for (text, sep, bound, to, calls) in &POURS {
-        both(&rt, *text, *sep, *bound, *to, *calls)?;
+        both(&rt, *text, *sep, *bound, *to, *calls);
     }
-    Ok(())
 }
 
 // a text, a bound, and calls that cut it at line ends
@@ -487,30 +467,38 @@ const SETS: [(&[u8], i64, Calls); 3] = [
 ];
 
 #[test]
-fn other_marks(rt: HostRuntime) -> Result<(), Fail> {
+fn other_marks(rt: HostRuntime) {
     for (text, bound, calls) in &LINES {
-        runs(
-            &rt,
-            &mut Cutter::open(Bytes::new(text), LineEnds, *bound),
-            &Bytes::new(b"|"),
-            calls,
-        )?;
-        runs(
-            &rt,
-            &mut Cutter::open(Text::new(text), LineEnds, *bound),
-            &Text::new(b"|"),
-            calls,
-        )?;
+        assert_eq!(rt;
+            wrong(
+                &mut Cutter::open(Bytes::new(text), LineEnds, *bound),
+                &Bytes::new(b"|"),
+                calls
+            ),
+            None,
+            "{text:?}, {bound}"
+        );
+        assert_eq!(rt;
+            wrong(
+                &mut Cutter::open(Text::new(text), LineEnds, *bound),
+                &Text::new(b"|"),
+                calls
+            ),
+            None,
+            "{text:?}, {bound}"
+        );
     }
     for (text, bound, calls) in &SETS {
-        runs(
-            &rt,
-            &mut Cutter::open(Bytes::new(text), ByteSet::new(b"\r\n\x82"), *bound),
-            &Bytes::new(b"|"),
-            calls,
-        )?;
+        assert_eq!(rt;
+            wrong(
+                &mut Cutter::open(Bytes::new(text), ByteSet::new(b"\r\n\x82"), *bound),
+                &Bytes::new(b"|"),
+                calls
+            ),
+            None,
+            "{text:?}, {bound}"
+        );
     }
-    Ok(())
 }
 
 // Whether a label shows these bytes and no others, or refuses them whole.

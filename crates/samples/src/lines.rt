@@ -1,12 +1,11 @@
 // Line ends from the front and from the back, in both kinds of text.
-use super::answers::{Span, finds, rfinds};
+use super::answers::{Span, found, rfound};
 use anystr::anystr::AnyStr;
 use anystr::bytes::Bytes;
 use lineends::LineEnds;
 use searchers::ascii::AsciiStr;
 use searchers::searcher::{ReverseSearcher, Searcher};
 use std::process::Abort;
-use std::test::Fail;
 use text::Text;
 
 // a line, and the line with its end
@@ -62,24 +61,33 @@ const TEXTS: [(&[u8], &[Line]); 20] = [
 ];
 
 // The lines of a text by `find`.
-fn from_the_front<S: AsciiStr>(rt: &impl Abort, text: &S, lines: &[Line]) -> Result<(), Fail> {
+fn from_the_front<S: AsciiStr>(rt: &impl Abort, kind: &str, text: &S, lines: &[Line]) {
+    let bytes = text.as_bytes();
     let mut start = 0;
     for (line, piece) in lines {
         let (stop, end) = match LineEnds.find(text, start) {
             Some(mark) => (mark.start, mark.end),
             None => (text.bytes_len(), text.bytes_len()),
         };
-        assert_eq!(rt; text.get_bytes(start, stop).as_bytes(), *line);
-        assert_eq!(rt; text.get_bytes(start, end).as_bytes(), *piece);
+        assert_eq!(rt;
+            text.get_bytes(start, stop).as_bytes(),
+            *line,
+            "{kind} {bytes:?}"
+        );
+        assert_eq!(rt;
+            text.get_bytes(start, end).as_bytes(),
+            *piece,
+            "{kind} {bytes:?}"
+        );
         start = end;
     }
-    assert_eq!(rt; start, text.bytes_len());
-    assert!(rt; LineEnds.find(text, start).is_none());
-    Ok(())
+    assert_eq!(rt; start, text.bytes_len(), "{kind} {bytes:?}");
+    assert!(rt; LineEnds.find(text, start).is_none(), "{kind} {bytes:?}");
 }
 
 // The lines of a text by `rfind`, the last first. A line's own end is the mark that ends where the line does.
-fn from_the_back<S: AsciiStr>(rt: &impl Abort, text: &S, lines: &[Line]) -> Result<(), Fail> {
+fn from_the_back<S: AsciiStr>(rt: &impl Abort, kind: &str, text: &S, lines: &[Line]) {
+    let bytes = text.as_bytes();
     let mut end = text.bytes_len();
     for (line, piece) in lines.iter().rev() {
         let stop = match LineEnds.rfind(text, end) {
@@ -90,31 +98,36 @@ fn from_the_back<S: AsciiStr>(rt: &impl Abort, text: &S, lines: &[Line]) -> Resu
             Some(mark) => mark.end,
             None => 0,
         };
-        assert_eq!(rt; text.get_bytes(start, stop).as_bytes(), *line);
-        assert_eq!(rt; text.get_bytes(start, end).as_bytes(), *piece);
+        assert_eq!(rt;
+            text.get_bytes(start, stop).as_bytes(),
+            *line,
+            "{kind} {bytes:?}"
+        );
+        assert_eq!(rt;
+            text.get_bytes(start, end).as_bytes(),
+            *piece,
+            "{kind} {bytes:?}"
+        );
         end = start;
     }
-    assert_eq!(rt; end, 0);
-    assert!(rt; LineEnds.rfind(text, end).is_none());
-    Ok(())
+    assert_eq!(rt; end, 0, "{kind} {bytes:?}");
+    assert!(rt; LineEnds.rfind(text, end).is_none(), "{kind} {bytes:?}");
 }
 
 #[test]
-fn lines_from_the_front(rt: HostRuntime) -> Result<(), Fail> {
+fn lines_from_the_front(rt: HostRuntime) {
     for (bytes, lines) in &TEXTS {
-        from_the_front(&rt, &Bytes::new(bytes), lines).note(format_args!("Bytes {bytes:?}"))?;
-        from_the_front(&rt, &Text::new(bytes), lines).note(format_args!("Text {bytes:?}"))?;
+        from_the_front(&rt, "Bytes", &Bytes::new(bytes), lines);
+        from_the_front(&rt, "Text", &Text::new(bytes), lines);
     }
-    Ok(())
 }
 
 #[test]
-fn lines_from_the_back(rt: HostRuntime) -> Result<(), Fail> {
+fn lines_from_the_back(rt: HostRuntime) {
     for (bytes, lines) in &TEXTS {
-        from_the_back(&rt, &Bytes::new(bytes), lines).note(format_args!("Bytes {bytes:?}"))?;
-        from_the_back(&rt, &Text::new(bytes), lines).note(format_args!("Text {bytes:?}"))?;
+        from_the_back(&rt, "Bytes", &Bytes::new(bytes), lines);
+        from_the_back(&rt, "Text", &Text::new(bytes), lines);
     }
-    Ok(())
 }
 
 // A pair is one mark: none begins or ends in its middle.
@@ -139,14 +152,21 @@ const BEFORE: [(usize, Span); 6] = [
 ];
 
 #[test]
-fn middle_of_a_pair(rt: HostRuntime) -> Result<(), Fail> {
+fn middle_of_a_pair(rt: HostRuntime) {
     for (from, mark) in &FROM {
-        finds(&rt, &LineEnds, &Bytes::new(PAIR), *from, *mark)?;
-        finds(&rt, &LineEnds, &Text::new(PAIR), *from, *mark)?;
+        assert_eq!(rt; found(&LineEnds, &Bytes::new(PAIR), *from), *mark, "{from}");
+        assert_eq!(rt; found(&LineEnds, &Text::new(PAIR), *from), *mark, "{from}");
     }
     for (before, mark) in &BEFORE {
-        rfinds(&rt, &LineEnds, &Bytes::new(PAIR), *before, *mark)?;
-        rfinds(&rt, &LineEnds, &Text::new(PAIR), *before, *mark)?;
+        assert_eq!(rt;
+            rfound(&LineEnds, &Bytes::new(PAIR), *before),
+            *mark,
+            "{before}"
+        );
+        assert_eq!(rt;
+            rfound(&LineEnds, &Text::new(PAIR), *before),
+            *mark,
+            "{before}"
+        );
     }
-    Ok(())
 }

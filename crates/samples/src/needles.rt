@@ -1,9 +1,8 @@
 // Occurrences of a text in another.
-use super::answers::{PASSES, Span, code, finds, rfinds};
+use super::answers::{PASSES, Span, code, found, rfound};
 use anystr::anystr::AnyStr;
 use anystr::bytes::Bytes;
 use std::process::Abort;
-use std::test::Fail;
 use substring::Substring;
 use text::Text;
 
@@ -68,75 +67,73 @@ const BEFORE: [(&[u8], &[u8], usize, Span); 22] = [
 ];
 
 #[test]
-fn occurrences_from_the_front(rt: HostRuntime) -> Result<(), Fail> {
+fn occurrences_from_the_front(rt: HostRuntime) {
     for (text, needle, from, mark) in &FROM {
         assert_eq!(rt; code(Substring::check(&Bytes::new(needle))), PASSES);
-        finds(
-            &rt,
-            &Substring::new(Bytes::new(needle)),
-            &Bytes::new(text),
-            *from,
+        assert_eq!(rt;
+            found(
+                &Substring::new(Bytes::new(needle)),
+                &Bytes::new(text),
+                *from
+            ),
             *mark,
-        )
-        .note(format_args!("Bytes {needle:?} in {text:?}"))?;
-        finds(
-            &rt,
-            &Substring::new(Text::new(needle)),
-            &Text::new(text),
-            *from,
+            "Bytes {needle:?} in {text:?}, {from}"
+        );
+        assert_eq!(rt;
+            found(&Substring::new(Text::new(needle)), &Text::new(text), *from),
             *mark,
-        )
-        .note(format_args!("Text {needle:?} in {text:?}"))?;
+            "Text {needle:?} in {text:?}, {from}"
+        );
     }
-    Ok(())
 }
 
 #[test]
-fn occurrences_from_the_back(rt: HostRuntime) -> Result<(), Fail> {
+fn occurrences_from_the_back(rt: HostRuntime) {
     for (text, needle, before, mark) in &BEFORE {
         assert_eq!(rt; code(Substring::check(&Text::new(needle))), PASSES);
-        rfinds(
-            &rt,
-            &Substring::new(Bytes::new(needle)),
-            &Bytes::new(text),
-            *before,
+        assert_eq!(rt;
+            rfound(
+                &Substring::new(Bytes::new(needle)),
+                &Bytes::new(text),
+                *before
+            ),
             *mark,
-        )
-        .note(format_args!("Bytes {needle:?} in {text:?}"))?;
-        rfinds(
-            &rt,
-            &Substring::new(Text::new(needle)),
-            &Text::new(text),
-            *before,
+            "Bytes {needle:?} in {text:?}, {before}"
+        );
+        assert_eq!(rt;
+            rfound(
+                &Substring::new(Text::new(needle)),
+                &Text::new(text),
+                *before
+            ),
             *mark,
-        )
-        .note(format_args!("Text {needle:?} in {text:?}"))?;
+            "Text {needle:?} in {text:?}, {before}"
+        );
     }
-    Ok(())
 }
 
 // Whether the empty needle is refused, and found nowhere.
-fn refused<S: AnyStr>(rt: &impl Abort, text: S, empty: S) -> Result<(), Fail> {
+fn refused<S: AnyStr>(rt: &impl Abort, text: S, empty: S) {
     assert_eq!(rt; code(Substring::check(&empty)), (1, 0));
     for at in [0, 1, 4, usize::MAX] {
-        finds(rt, &Substring::new(empty), &text, at, None)?;
-        rfinds(rt, &Substring::new(empty), &text, at, None)?;
+        assert_eq!(rt; found(&Substring::new(empty), &text, at), None);
+        assert_eq!(rt; rfound(&Substring::new(empty), &text, at), None);
     }
-    Ok(())
 }
 
 // Bytes may look for a part of a character; as a Text it is refused, and the empty text.
 #[test]
-fn empty_needle(rt: HostRuntime) -> Result<(), Fail> {
-    refused(&rt, Bytes::new(b"aaaa"), Bytes::new(b""))?;
-    refused(&rt, Text::new(b"aaaa"), Text::new(b""))?;
-    refused(&rt, Bytes::new(b""), Bytes::new(b""))?;
-    refused(&rt, Text::new(b"\xE2\x82\xAC"), Text::new(b"\x82"))?;
-    finds(
-        &rt,
-        &Substring::new(Bytes::new(b"\x82")),
-        &Bytes::new(b"\xE2\x82\xAC"),
-        0,
-        Some((1, 2)),
-    )
+fn empty_needle(rt: HostRuntime) {
+    refused(&rt, Bytes::new(b"aaaa"), Bytes::new(b""));
+    refused(&rt, Text::new(b"aaaa"), Text::new(b""));
+    refused(&rt, Bytes::new(b""), Bytes::new(b""));
+    refused(&rt, Text::new(b"\xE2\x82\xAC"), Text::new(b"\x82"));
+    assert_eq!(rt;
+        found(
+            &Substring::new(Bytes::new(b"\x82")),
+            &Bytes::new(b"\xE2\x82\xAC"),
+            0
+        ),
+        Some((1, 2))
+    );
 }

@@ -1,9 +1,8 @@
 // Sets of bytes, and the search for their bytes.
-use super::answers::{PASSES, Span, code, finds, rfinds};
+use super::answers::{PASSES, Span, code, found, rfound};
 use anystr::bytes::Bytes;
 use bytesets::asciiset::AsciiSet;
 use bytesets::byteset::ByteSet;
-use std::test::Fail;
 use text::Text;
 
 // a set, an offset to search from, and the mark that is found in these bytes
@@ -40,18 +39,21 @@ const BYTES_BEFORE: [(&[u8], usize, Span); 11] = [
 ];
 
 #[test]
-fn byte_sets(rt: HostRuntime) -> Result<(), Fail> {
+fn byte_sets(rt: HostRuntime) {
     for (set, from, mark) in &BYTES_FROM {
-        finds(&rt, &ByteSet::new(set), &Bytes::new(BYTES), *from, *mark).note(format_args!(
-            "{set:?}"
-        ))?;
+        assert_eq!(rt;
+            found(&ByteSet::new(set), &Bytes::new(BYTES), *from),
+            *mark,
+            "{set:?}, {from}"
+        );
     }
     for (set, before, mark) in &BYTES_BEFORE {
-        rfinds(&rt, &ByteSet::new(set), &Bytes::new(BYTES), *before, *mark).note(format_args!(
-            "{set:?}"
-        ))?;
+        assert_eq!(rt;
+            rfound(&ByteSet::new(set), &Bytes::new(BYTES), *before),
+            *mark,
+            "{set:?}, {before}"
+        );
     }
-    Ok(())
 }
 
 // every byte, from 0 to 255
@@ -64,28 +66,24 @@ fn all() -> [u8; 256] {
 }
 
 #[test]
-fn set_of_all_bytes(rt: HostRuntime) -> Result<(), Fail> {
+fn set_of_all_bytes(rt: HostRuntime) {
     let bytes = all();
     let set = ByteSet::new(&bytes);
     let text = Bytes::new(&bytes);
     for at in 0..256usize {
-        finds(&rt, &set, &text, at, Some((at, at + 1)))?;
-        rfinds(&rt, &set, &text, at + 1, Some((at, at + 1)))?;
+        assert_eq!(rt; found(&set, &text, at), Some((at, at + 1)));
+        assert_eq!(rt; rfound(&set, &text, at + 1), Some((at, at + 1)));
     }
-    finds(&rt, &set, &text, 256, None)?;
-    rfinds(&rt, &set, &text, 0, None)?;
-    rfinds(&rt, &set, &text, usize::MAX, Some((255, 256)))?;
+    assert_eq!(rt; found(&set, &text, 256), None);
+    assert_eq!(rt; rfound(&set, &text, 0), None);
+    assert_eq!(rt; rfound(&set, &text, usize::MAX), Some((255, 256)));
     // each byte alone stands where its number says
     for b in 0..=255u8 {
-        finds(
-            &rt,
-            &ByteSet::new(&[b]),
-            &text,
-            0,
-            Some((b as usize, b as usize + 1)),
-        )?;
+        assert_eq!(rt;
+            found(&ByteSet::new(&[b]), &text, 0),
+            Some((b as usize, b as usize + 1))
+        );
     }
-    Ok(())
 }
 
 // the bytes of a set, and what the check of a set for Text answers
@@ -135,22 +133,29 @@ const TEXT_BEFORE: [(&[u8], usize, Span); 8] = [
 ];
 
 #[test]
-fn ascii_sets(rt: HostRuntime) -> Result<(), Fail> {
+fn ascii_sets(rt: HostRuntime) {
     for (set, from, mark) in &TEXT_FROM {
-        finds(&rt, &AsciiSet::new(set), &Bytes::new(TEXT), *from, *mark).note(format_args!(
-            "Bytes {set:?}"
-        ))?;
-        finds(&rt, &AsciiSet::new(set), &Text::new(TEXT), *from, *mark).note(format_args!(
-            "Text {set:?}"
-        ))?;
+        assert_eq!(rt;
+            found(&AsciiSet::new(set), &Bytes::new(TEXT), *from),
+            *mark,
+            "Bytes {set:?}, {from}"
+        );
+        assert_eq!(rt;
+            found(&AsciiSet::new(set), &Text::new(TEXT), *from),
+            *mark,
+            "Text {set:?}, {from}"
+        );
     }
     for (set, before, mark) in &TEXT_BEFORE {
-        rfinds(&rt, &AsciiSet::new(set), &Bytes::new(TEXT), *before, *mark).note(format_args!(
-            "Bytes {set:?}"
-        ))?;
-        rfinds(&rt, &AsciiSet::new(set), &Text::new(TEXT), *before, *mark).note(format_args!(
-            "Text {set:?}"
-        ))?;
+        assert_eq!(rt;
+            rfound(&AsciiSet::new(set), &Bytes::new(TEXT), *before),
+            *mark,
+            "Bytes {set:?}, {before}"
+        );
+        assert_eq!(rt;
+            rfound(&AsciiSet::new(set), &Text::new(TEXT), *before),
+            *mark,
+            "Text {set:?}, {before}"
+        );
     }
-    Ok(())
 }

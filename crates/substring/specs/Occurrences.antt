@@ -1,6 +1,6 @@
 -- The marks of a needle: its occurrences, overlapping ones too. Assumes nothing.
 use Rattle.std.specs.Prelude.{◌≡◌, ℕ, ◌+◌, ◌<◌, Bool, true, false, ◌&&◌, T, List, [], ◌∷◌, length, take, drop, ◌==◌, nat_lt, refl}
-use Rattle.std.proofs.Common.{ap, arith, eqb-true, ltb-true}
+use Rattle.std.proofs.Common.{arith, eqb-true, ltb-true}
 use Rattle.std.proofs.lemmas.Bool.{and_parts, false≢true}
 use Rattle.anystr.specs.Elements.{Occurs}
 use Rattle.anystr.specs.OfBytes.{occurs-within}

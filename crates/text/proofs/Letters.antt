@@ -1,5 +1,5 @@
 -- Elements of a Text, by offset.
-use Rattle.std.proofs.Common.{◌≡◌, ℕ, zero, suc, ◌+◌, ◌-◌, ◌<◌, ◌≤◌, List, [], ◌∷◌, ◌++◌, map, length, get_or, take, drop, IsUtf8, sym, refl, ap, ◌∙◌, arith, length-append, take-append-drop, length-take}
+use Rattle.std.proofs.Common.{◌≡◌, ℕ, zero, suc, ◌+◌, ◌-◌, ◌<◌, ◌≤◌, List, [], ◌∷◌, ◌++◌, map, length, get_or, take, drop, IsUtf8, sym, refl, ap, ◌∙◌, arith, length-append, take-append-drop}
 use lib.Utf8.{encode, encodes}
 use Rattle.std.specs.Str as words
 use Rattle.std.specs.Str.{chars}

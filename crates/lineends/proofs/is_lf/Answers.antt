@@ -1,4 +1,4 @@
-use Rattle.std.proofs.Common.{T, eqb, ltb, sym, ap, ◌∙◌, arith}
+use Rattle.std.proofs.Common.{eqb, sym, ap, ◌∙◌}
 use Rattle.std.proofs.lemmas.List.{get_or_past}
 use Rattle.std.proofs.lemmas.Bool.{le-ltb, ltb-true}
 use Rattle.searchers.specs.Truth.{true_of}

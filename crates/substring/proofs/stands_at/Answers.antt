@@ -1,7 +1,7 @@
 use Rattle.std.proofs.Common.{◌≡◌, ℕ, ◌+◌, ◌-◌, length, take, drop, Decides, subst, arith}
 use Rattle.std.proofs.lemmas.Slice.Eq.{slice_eq-Decides}
 use Rattle.std.proofs.lemmas.Bool.Decides.{same_from_decides, Decides-eqb}
-use Rattle.substring.specs.Occurrences.{begins_with, taken}
+use Rattle.substring.specs.Occurrences.{taken}
 use Rattle.substring.proofs.Needles.{begun}
 use Rattle.substring.proofs.stands_at.Goals as goal
 

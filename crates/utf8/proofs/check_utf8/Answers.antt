@@ -1,4 +1,4 @@
-use Rattle.std.proofs.Common.{ℕ, take, sym, subst, arith}
+use Rattle.std.proofs.Common.{take, sym, subst, arith}
 use Rattle.utf8.specs.Table.{WellFormed, Longest}
 use Rattle.utf8.proofs.Rows.{utf8_from_formed, formed-from_utf8}
 use Rattle.utf8.proofs.check_utf8.Goals as goal

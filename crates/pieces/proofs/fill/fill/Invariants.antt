@@ -1,4 +1,4 @@
-use Rattle.std.proofs.Common.{◌≡◌, ◌+◌, ◌-◌, length, take, drop}
+use Rattle.std.proofs.Common.{◌≡◌, take, drop}
 use Rattle.pieces.specs.Sources.{Filled}
 use Rattle.pieces.proofs.fill.fill.Given as goal
 

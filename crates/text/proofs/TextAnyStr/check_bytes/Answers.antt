@@ -1,7 +1,6 @@
 use Rattle.std.proofs.Common.{refl, arith}
 use Rattle.std.proofs.lemmas.Bool.Decides.{not_from_Decides}
 use Rattle.utf8.proofs.Rows.{utf8_had}
-use Rattle.anystr.specs.Elements.{Cut}
 use Rattle.text.specs.OfText.{boundary, boundary_back}
 use Rattle.text.proofs.TextAnyStr.check_bytes.Goals as goal
 use Rattle.text.proofs.TextAnyStr.check_bytes.Goals.{else-start-end-via-then-start-end+then-is_boundary+else-is_boundary-2, else-start-end-via-then-start-end+else-is_boundary, else-start-end-via-else-start-end}

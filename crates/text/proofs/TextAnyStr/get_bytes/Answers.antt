@@ -1,8 +1,8 @@
-use Rattle.std.proofs.Common.{◌-◌, ◌≤◌, [], length, take, drop, IsUtf8, sym, ap, ◌∙◌, arith, length-drop, length-take}
+use Rattle.std.proofs.Common.{◌-◌, ◌≤◌, [], length, take, drop, arith, length-drop, length-take}
 use Rattle.std.proofs.lemmas.Str.{IsUtf8-nil, IsUtf8-between}
 use Rattle.utf8.proofs.Rows.{utf8_had, formed-from_utf8}
 use Rattle.anystr.specs.Limits.{most_bytes}
-use Rattle.text.specs.OfText.{concat-letters, boundary_back}
+use Rattle.text.specs.OfText.{boundary_back}
 use Rattle.text.proofs.Letters.{letters-nil}
 use Rattle.text.proofs.Letters.{part-letters}
 use Rattle.text.proofs.TextAnyStr.get_bytes.Goals as goal

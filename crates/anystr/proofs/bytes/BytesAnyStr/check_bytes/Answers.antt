@@ -1,6 +1,5 @@
 use Rattle.std.proofs.Common.{refl, arith}
 use Rattle.anystr.specs.OfBytes.{boundary, within}
-use Rattle.anystr.specs.Elements.{Cut}
 use Rattle.anystr.proofs.bytes.BytesAnyStr.check_bytes.Goals as goal
 use Rattle.anystr.proofs.bytes.BytesAnyStr.check_bytes.Goals.{else-start-end-via-then-start-end+else-end-self, else-start-end-via-else-start-end}
 

@@ -1,4 +1,4 @@
-use Rattle.std.proofs.Common.{◌≡◌, [], ◌∷◌, length, get_or, Some, sym, refl, ap, ◌∙◌, subst, arith, length-take}
+use Rattle.std.proofs.Common.{◌≡◌, Some, sym, refl, ap, ◌∙◌, arith, length-take}
 use Rattle.std.proofs.lemmas.List.{length-take-le}
 use Rattle.anystr.specs.Elements.{element_at, offset}
 use Rattle.anystr.specs.OfBytes.{singles, filled, length-singles, offset-singles, get_or-singles}

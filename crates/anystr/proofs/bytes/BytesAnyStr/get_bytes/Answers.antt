@@ -1,5 +1,5 @@
-use Rattle.std.proofs.Common.{◌-◌, ◌≤◌, length, take, drop, sym, ap, ◌∙◌, arith, length-drop, length-take}
-use Rattle.anystr.specs.OfBytes.{concat-singles, within}
+use Rattle.std.proofs.Common.{◌-◌, ◌≤◌, length, take, drop, arith, length-drop, length-take}
+use Rattle.anystr.specs.OfBytes.{within}
 use Rattle.anystr.specs.Limits.{most_bytes}
 use Rattle.anystr.proofs.Parts.{part-singles}
 use Rattle.anystr.proofs.bytes.BytesAnyStr.get_bytes.Goals as goal

@@ -1,4 +1,4 @@
-use Rattle.std.proofs.Common.{◌≡◌, ℕ, ◌<◌, false, length, ⊎_elim, arith, rules}
+use Rattle.std.proofs.Common.{◌≡◌, false, length, ⊎_elim, arith, rules}
 use Rattle.std.proofs.lemmas.List.{get_or_past}
 use Rattle.std.proofs.lemmas.Bool.{cases_lt}
 use Rattle.bytesets.proofs.byteset.ByteSet.least_from.Goals as goal

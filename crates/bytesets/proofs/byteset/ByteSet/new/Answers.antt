@@ -1,6 +1,6 @@
-use Rattle.std.proofs.Common.{◌≡◌, ℕ, ◌+◌, ◌<◌, true, false, length, get_or, take, sym, refl, ap, ◌∙◌, subst, arith, length-set, rules}
+use Rattle.std.proofs.Common.{ℕ, ◌<◌, true, get_or, take, sym, refl, ap, ◌∙◌, arith, length-set, rules}
 use Rattle.std.proofs.lemmas.List.{take_more, take_all}
-use Rattle.bytesets.specs.Sets.{among, member}
+use Rattle.bytesets.specs.Sets.{among}
 use Rattle.bytesets.proofs.Tables.{none_in, added}
 use Rattle.bytesets.proofs.byteset.ByteSet.new.Goals as goal
 

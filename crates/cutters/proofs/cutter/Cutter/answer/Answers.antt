@@ -1,5 +1,5 @@
 use Rattle.std.proofs.Common.{Some, None, refl}
-use Rattle.cuts.specs.Runs.{next, skip, rest, pours, pour_refused}
+use Rattle.cuts.specs.Runs.{next, skip, rest}
 use Rattle.cutters.specs.Calls.{span}
 use Rattle.cutters.specs.Plays.{gave, gave-none, skipped, skip-refused, rested, poured, pour-was_refused}
 use Rattle.cutters.proofs.Telling.{told_at}

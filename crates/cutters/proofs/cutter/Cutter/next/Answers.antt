@@ -1,9 +1,8 @@
-use Rattle.std.proofs.Common.{◌≡◌, ◌+◌, ◌≤◌, true, [], length, ℤ, sym, refl, ap, ◌∙◌, subst, arith, w64, SFits, to_z, of_z, rules}
-use Rattle.std.specs.List.{concat}
+use Rattle.std.proofs.Common.{◌≡◌, ◌+◌, ◌≤◌, true, sym, refl, ap, ◌∙◌, subst, arith, w64, SFits, rules}
 use Rattle.std.proofs.lemmas.Int.{to_z-of_z}
 use Rattle.anystr.specs.Elements.{Boundary}
 use Rattle.searchers.specs.Truth.{truth}
-use Rattle.cuts.specs.Cuts.{fewer, at}
+use Rattle.cuts.specs.Cuts.{fewer}
 use Rattle.cuts.proofs.Found.{none_found, used_up}
 use Rattle.cutters.specs.Calls.{sheet}
 use Rattle.cutters.proofs.Steps.{rest-step, cut_step, rest-on}

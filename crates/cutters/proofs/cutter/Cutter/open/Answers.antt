@@ -1,4 +1,4 @@
-use Rattle.std.proofs.Common.{◌≡◌, ℤ, sym, refl, subst, w64, to_z, of_z}
+use Rattle.std.proofs.Common.{◌≡◌, refl, w64, to_z, of_z}
 use Rattle.std.proofs.lemmas.Int.{to_z-of_z}
 use Rattle.cuts.proofs.Runs.{runs-law}
 use Rattle.cutters.proofs.cutter.Cutter.open.Goals as goal

@@ -1,4 +1,4 @@
-use Rattle.std.proofs.Common.{◌≡◌, ◌<◌, ◌≤◌, length, Some, sym, refl, ap, ◌∙◌, subst, arith, length-drop}
+use Rattle.std.proofs.Common.{◌<◌, ◌≤◌, length, Some, sym, refl, ap, subst, arith, length-drop}
 use Rattle.std.specs.List.{concat}
 use Rattle.anystr.specs.Elements.{Boundary}
 use Rattle.cuts.specs.Runs.{needed}

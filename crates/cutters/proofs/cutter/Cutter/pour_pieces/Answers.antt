@@ -1,4 +1,4 @@
-use Rattle.std.proofs.Common.{◌≡◌, ◌+◌, sym, ◌∙◌, arith}
+use Rattle.std.proofs.Common.{sym, ◌∙◌, arith}
 use Rattle.std.specs.List.{concat}
 use Rattle.anystr.specs.OfBytes.{singles}
 use Rattle.cuts.proofs.Left.{gave}

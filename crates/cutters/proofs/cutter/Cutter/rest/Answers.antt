@@ -1,4 +1,4 @@
-use Rattle.std.proofs.Common.{◌≡◌, sym, refl, subst}
+use Rattle.std.proofs.Common.{sym, refl, subst}
 use Rattle.anystr.specs.Elements.{Boundary}
 use Rattle.cutters.proofs.Ends.{end_on}
 use Rattle.cutters.proofs.cutter.Cutter.rest.Goals as goal

@@ -1,4 +1,4 @@
-use Rattle.std.proofs.Common.{◌≡◌, sym, subst}
+use Rattle.std.proofs.Common.{sym, subst}
 use Rattle.cuts.specs.Cuts.{Sheet, pieces_left}
 use Rattle.cutters.specs.Calls.{sheet, state}
 use Rattle.cutters.proofs.Same.{same_sheet}
