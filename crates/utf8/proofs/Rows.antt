@@ -7,7 +7,7 @@ use mathlib.Core.HLevel.{hedberg}
 use native.Mathlib.Decide.{ℕ_discrete}
 use lib.Utf8.{scalar, scalars, next, encode, encodes, scalar_cases, low_scalar}
 use Rattle.std.specs.Int.{IsInRange}
-use Rattle.std.specs.List.{AllByRecursion as All, concat}
+use Rattle.std.specs.List.{AllByRecursion, concat}
 use Rattle.std.specs.Str.{chars}
 use Rattle.std.proofs.lemmas.Bool.{cases_lt, cond-true, cond-false, lt-ltb, le-ltb, le-leb, and_from, and_parts}
 use Rattle.std.proofs.lemmas.Str.{encode_ascii, encodes-chars, scalars-chars}
@@ -74,7 +74,7 @@ coded (row7 a b c d i j k l) = of_four a b c d (omega arith, omega arith) (omega
 coded (row8 a b c d i j k l) = of_four a b c d (omega arith, omega arith) j k l (omega arith) (omega arith)
 coded (row9 a b c d i j k l) = of_four a b c d (omega arith, omega arith) (omega arith, omega arith) k l (omega arith) (omega arith)
 
-coded-all : (es : List (List ℕ)) → All Sequence es → IsUtf8 (concat es)
+coded-all : (es : List (List ℕ)) → AllByRecursion Sequence es → IsUtf8 (concat es)
 coded-all [] h = ([], (refl, refl))
 coded-all (e ∷ es) h =
     let k = coded h.0 in
@@ -116,7 +116,7 @@ sequence c s = by (cases_lt c 128) (cases_lt c 2048) (cases_lt c 65536)
     by (inr _) (inr l) (inl h) = subst Sequence (sym (three c l h)) (of3 l h)
     by (inr _) (inr _) (inr l) = subst Sequence (sym (four c l)) (of4 l)
 
-pub sequences : (cs : List ℕ) → scalars cs ≡ true → All Sequence (map encode cs)
+pub sequences : (cs : List ℕ) → scalars cs ≡ true → AllByRecursion Sequence (map encode cs)
 sequences [] s = tt
 sequences (c ∷ cs) s = let p = and_parts _ _ s in (sequence c p.0, sequences cs p.1)
 

@@ -1,7 +1,7 @@
 -- Well-formed UTF-8, from Table 3-7 of the Unicode Standard. Assumes nothing.
 use Rattle.std.specs.Prelude.{◌≡◌, ℕ, ◌<◌, ◌≤◌, List, [], ◌∷◌, length, take, IsUtf8}
 use Rattle.std.specs.Int.{IsInRange}
-use Rattle.std.specs.List.{concat, AllByRecursion as All}
+use Rattle.std.specs.List.{concat, AllByRecursion}
 
 -- a row of the table: the bytes of one code point, each in its column's range
 pub data Sequence : List ℕ → Type 0 where
@@ -17,7 +17,7 @@ pub data Sequence : List ℕ → Type 0 where
 
 -- sequences of the table, one after another
 abbrev pub WellFormed : List ℕ → Type 0
-WellFormed bs = (es : List (List ℕ)) × All Sequence es × (concat es ≡ bs)
+WellFormed bs = (es : List (List ℕ)) × AllByRecursion Sequence es × (concat es ≡ bs)
 
 -- the first n bytes are the longest well-formed beginning
 pub record Longest (bs : List ℕ) (n : ℕ) : Type 0 where
