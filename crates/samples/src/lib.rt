@@ -4,7 +4,7 @@
 #[cfg(test)]
 mod answers;
 #[cfg(test)]
-mod cuts;
+mod cut_texts;
 #[cfg(test)]
 mod elements;
 #[cfg(test)]
@@ -12,7 +12,7 @@ mod forms;
 #[cfg(test)]
 mod indices;
 #[cfg(test)]
-mod lines;
+mod line_ends;
 #[cfg(test)]
 mod needles;
 #[cfg(test)]
