@@ -20,6 +20,7 @@ use anystr::bytes::Bytes;
 use help::HELP;
 use page::Page;
 use sheet::show_sheet;
+use std::env::{Env, FillError};
 use std::io::{BufWriter, Read, Write};
 use std::process::ExitCode;
 use std::{env, io};
@@ -39,7 +40,7 @@ const NO_WORDS: &str = "the words cannot be read";
 
 const NO_INPUT: &str = "the standard input cannot be read";
 
-const NO_OUTPUT: &str = "the page cannot be written";
+const NO_OUTPUT: &str = "the standard output cannot be written";
 
 // A result whose failure is told as `what`.
 fn told<T: Drop>(what: &'static str, res: io::Result<T>) -> Result<T, Trouble> {
@@ -49,7 +50,11 @@ fn told<T: Drop>(what: &'static str, res: io::Result<T>) -> Result<T, Trouble> {
     }
 }
 
+// The words, the program's name first; none at all where only the name was given, which need not be text.
 fn read_words(rt: &HostRuntime) -> io::Result<Vec<String>> {
+    if let Err(FillError::NotPresent) = rt.arg(1, &mut []) {
+        return Ok(Vec::new(rt.alloc()));
+    }
     Ok(env::args(rt)?.collect(rt.alloc())?)
 }
 

@@ -17,12 +17,12 @@ module _ {S C : Type 0} (bytes : S → List ℕ) where
   -- the call and its answer are the event; the tray holds and has free so many bytes before it and after it
   pub data Told : Call S C → Answer → List ℕ → ℕ → Event → List ℕ → ℕ → Type 0 where
     gave : {h : List ℕ} {f : ℕ} (p : Piece) → Told Next (answer.Piece p) h f (next (Some (span p))) h f
-    gave-none : {h : List ℕ} {f : ℕ} → Told Next answer.NoPiece h f (next None) h f
+    gave_none : {h : List ℕ} {f : ℕ} → Told Next answer.NoPiece h f (next None) h f
     skipped : {h : List ℕ} {f : ℕ} (n : ℕ) → Told (Skip n) answer.Skipped h f (skip n None) h f
-    skip-refused : {h : List ℕ} {f : ℕ} (n left : ℕ) (r : Refusal) → code r ≡ (9, left) → Told (Skip n) (answer.Refused r) h f (skip n (Some left)) h f
+    skip_refused : {h : List ℕ} {f : ℕ} (n left : ℕ) (r : Refusal) → code r ≡ (9, left) → Told (Skip n) (answer.Refused r) h f (skip n (Some left)) h f
     rested : {h : List ℕ} {f : ℕ} (p : Piece) → Told Rest (answer.Rest p) h f (rest (span p)) h f
     poured : {h h' : List ℕ} {f f' : ℕ} (to : S) → Told (Pour to) answer.Poured h f (pours (bytes to) h f h' f') h' f'
-    pour-was_refused : {h h' : List ℕ} {f f' : ℕ} (to : S) (r : Refusal) (why : Option ℕ) → code r ≡ pour_code why → Told (Pour to) (answer.Refused r) h f (pour_refused (bytes to) h f h' f' why) h' f'
+    pour_was_refused : {h h' : List ℕ} {f f' : ℕ} (to : S) (r : Refusal) (why : Option ℕ) → code r ≡ pour_code why → Told (Pour to) (answer.Refused r) h f (pour_refused (bytes to) h f h' f' why) h' f'
 
   -- calls and their answers, in turn, are the events, of which the latest stands first
   pub data Plays : List (Call S C) → List Answer → List ℕ → ℕ → List Event → List ℕ → ℕ → Type 0 where
