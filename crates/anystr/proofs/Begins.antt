@@ -4,6 +4,12 @@ use Rattle.std.specs.List.{concat}
 use Rattle.std.proofs.lemmas.Bool.{cond-true, cond-false, le-leb, leb-true, ne_eqb, cases_eq, cases_Bool}
 use Rattle.anystr.specs.Elements.{offset, element_at, Filled}
 
+-- no element is empty
+pub filled_at : (es : List (List ℕ)) (k : ℕ) → Filled es → k < length es → 0 < length (get_or es k [])
+filled_at [] k f h = absurd (omega arith)
+filled_at (e ∷ es) zero f h = f.0
+filled_at (e ∷ es) (suc k) f h = filled_at es k f.1 (omega arith)
+
 pub begins : (es : List (List ℕ)) (k : ℕ) → Filled es → k < length es → element_at es (offset es k) ≡ Some (get_or es k [])
 begins [] k f h = absurd (omega arith)
 begins (e ∷ es) zero f h = refl

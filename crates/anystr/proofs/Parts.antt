@@ -1,13 +1,28 @@
 -- Parts of a text, by its elements and by its bytes.
-use Rattle.std.proofs.Common.{◌≡◌, ℕ, ◌+◌, ◌-◌, ◌≤◌, List, [], ◌∷◌, ◌++◌, length, take, drop, sym, refl, ap, ◌∙◌, append_assoc, arith, length-append, length-drop, take-append-drop, length-take}
+use Rattle.std.proofs.Common.{◌≡◌, ℕ, ◌+◌, ◌-◌, ◌≤◌, List, [], ◌∷◌, ◌++◌, length, take, drop, sym, refl, ap, ◌∙◌, append_assoc, arith, length-append, length-drop, take-append-drop, length-take, take-add}
 use Rattle.std.proofs.lemmas.List.{take_at, drop_at, length-take-le}
 use Rattle.std.specs.List.{concat}
 use Rattle.anystr.specs.Elements.{Part}
 use Rattle.anystr.specs.OfBytes.{singles, concat-singles}
+use Rattle.anystr.specs.Places.{part}
 
 pub concat-append : (xs ys : List (List ℕ)) → concat (xs ++ ys) ≡ concat xs ++ concat ys
 concat-append [] ys = refl
 concat-append (x ∷ xs) ys = ap (λ r. x ++ r) (concat-append xs ys) ∙ sym (append_assoc x (concat xs) (concat ys))
+
+-- the bytes are those before the elements of the part, theirs, and those after them
+pub concat-part : (es ps : List (List ℕ)) (a b : ℕ) → Part es ps a b → concat ps ≡ part (concat es) (a, b)
+concat-part es ps a b p =
+    let f = take p.from es in
+    let m = take (p.to - p.from) (drop p.from es) in
+    let r = drop (p.to - p.from) (drop p.from es) in
+    let all : concat es ≡ concat f ++ (concat m ++ concat r) =
+    ap concat (sym (take-append-drop p.from es)) ∙ (concat-append f (drop p.from es) ∙ ap (λ l. concat f ++ l) (ap concat (sym (take-append-drop (p.to - p.from) (drop p.from es))) ∙ concat-append m r)) in
+    let to : p.to ≡ p.from + (p.to - p.from) = omega (arith, p.order) in
+    let long : length (concat (take p.to es)) ≡ length (concat f) + length (concat m) =
+    ap (λ k. length (concat (take k es))) to ∙ (ap (λ l. length (concat l)) (take-add p.from (p.to - p.from) es) ∙ (ap length (concat-append f m) ∙ length-append (concat f) (concat m))) in
+    let size : length (concat m) ≡ b - a = omega (arith, long, p.start, p.end) in
+    ap concat p.is ∙ sym (ap (λ l. part l (a, b)) all ∙ (ap (take (b - a)) (drop_at (concat f) (concat m ++ concat r) a p.start) ∙ take_at (concat m) (concat r) (b - a) size))
 
 pub part-from_split : (es f m r : List (List ℕ)) (a b : ℕ) → es ≡ f ++ (m ++ r) → length (concat f) ≡ a → a + length (concat m) ≡ b → Part es m a b
 part-from_split es f m r a b e la lb = record {

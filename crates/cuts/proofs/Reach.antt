@@ -44,7 +44,7 @@ marks-snoc : (row : List Cut) (x : Cut) (ms : List Span) → marks_of (row ++ (x
 marks-snoc [] x ms = refl
 marks-snoc (y ∷ ys) x ms = ap {B = List Span} (λ r. y.1 ∷ r) (marks-snoc ys x ms)
 
-length-marks : (row : List Cut) → length (marks_of row) ≡ length row
+pub length-marks : (row : List Cut) → length (marks_of row) ≡ length row
 length-marks [] = refl
 length-marks (x ∷ xs) = ap suc (length-marks xs)
 

@@ -1,9 +1,7 @@
 -- A tray while bytes are poured into it.
-use Rattle.std.proofs.Common.{◌≡◌, ℕ, ◌+◌, ◌-◌, ◌≤◌, Bool, true, false, cond, List, [], ◌++◌, length, take, drop, Some, Ok, Err, Result, sym, ap, ◌∙◌, subst, append_assoc, arith, length-append, length-drop}
+use Rattle.std.proofs.Common.{◌≡◌, ℕ, ◌+◌, ◌-◌, ◌≤◌, Bool, true, false, cond, List, [], ◌++◌, length, take, drop, Some, sym, ap, ◌∙◌, subst, append_assoc, arith, length-append, length-drop}
 use Rattle.std.proofs.lemmas.List.{drop-drop}
-use Rattle.anystr.specs.declared.refusal.Refusal.{Refusal}
 use Rattle.searchers.specs.Marks.{Span, Lawful}
-use Rattle.trays.specs.Trays.{Pushed}
 use Rattle.cuts.specs.Cuts.{Sheet, size, State}
 use Rattle.cuts.specs.Runs.{Step, next}
 use Rattle.cuts.proofs.Left.{to_pour, gave}
@@ -30,12 +28,6 @@ pushed held spare bytes rest all spare₀ held' spare' total p eh es =
       left = es ∙ (ap (drop (length bytes)) p.left ∙ drop-drop (length bytes) p.gone spare₀);
       count = omega arith;
     }
-
--- a push that fits is taken
-pub took : {X : Type 0} (bytes held spare held' spare' : List ℕ) (r : Result X Refusal) → length bytes ≤ length spare → Pushed bytes held spare held' spare' r
-    → (held' ≡ held ++ bytes) × (spare' ≡ drop (length bytes) spare)
-took bytes held spare held' spare' (Ok _) fits p = (p.1, p.2)
-took bytes held spare held' spare' (Err e) fits p = absurd (omega (arith, p.0))
 
 -- one turn of the pass that pours: a piece's bytes, and then `to` unless the piece is the last
 module _ (on : Sheet) (law : Lawful on.marks (size on)) (to : List ℕ) (s t : State) (p : Span) (st : Step on s (next (Some p)) t)

@@ -7,11 +7,11 @@ use Rattle.anystr.specs.OfBytes.{singles, concat-singles}
 use Rattle.searchers.specs.Marks.{Span, Least, NoneFrom}
 use Rattle.substring.specs.Occurrences.{occurrence, occurrence-lawful}
 use Rattle.cuts.specs.Cuts.{cut_from}
-use Rattle.cuts.specs.Runs.{Cut, CutRule, marks_of}
+use Rattle.cuts.specs.Runs.{CutRule}
 use Rattle.cuts.proofs.Found.{cut-found, none_found}
 use Rattle.cuts.proofs.Greedy.{greedy_rule}
 use Rattle.cuts.proofs.Listed.{greedy_cuts}
-use Rattle.cuts.proofs.Reach.{to_the_end}
+use Rattle.cuts.proofs.Reach.{to_the_end, length-marks}
 use Rattle.finds.specs.Counts.{cut_by, times, count_of, CutUp, Number}
 use Rattle.anystr.specs.Places.{part}
 use Rattle.finds.proofs.Parts.{length_part}
@@ -29,10 +29,6 @@ module _ (n bs : List ℕ) (made place : ℕ) where
 
   pub no_cut : NoneFrom (occurrence n bs) place → length (cut_from (cut_by n bs) made place) ≡ 0
   no_cut none = ap length (none_found (cut_by n bs) (occurrence-lawful n bs) made place none)
-
-length-marks : (row : List Cut) → length (marks_of row) ≡ length row
-length-marks [] = refl
-length-marks (x ∷ xs) = ap suc (length-marks xs)
 
 cut_up : (n bs : List ℕ) → CutUp n bs (length (cut_from (cut_by n bs) 0 0))
 cut_up n bs =

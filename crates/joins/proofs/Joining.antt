@@ -9,7 +9,8 @@ use Rattle.anystr.specs.Places.{stretch, stretches, part, with_between, join_par
 use Rattle.anystr.specs.declared.place.Place.{Place}
 use Rattle.anystr.specs.declared.refusal.Refusal.{Refusal}
 use Rattle.trays.specs.Trays.{Pushed}
-use Rattle.cutters.proofs.Pouring.{Pouring, pushed, took}
+use Rattle.trays.proofs.Pushes.{took}
+use Rattle.cutters.proofs.Pouring.{Pouring, pushed}
 use Rattle.joins.specs.Joins.{most_places, first_bad, unless_bad}
 use Rattle.joins.proofs.Places.{passes, stops, none-bad, part-long}
 

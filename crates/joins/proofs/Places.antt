@@ -1,9 +1,8 @@
 -- Places in a text: what the tests of boundaries and of places say.
-use Rattle.std.proofs.Common.{◌≡◌, ℕ, zero, suc, ◌+◌, ◌-◌, ◌≤◌, true, ◌&&◌, eqb, leb, List, [], ◌∷◌, ◌++◌, length, take, drop, Some, None, sym, ap, ◌∙◌, ⊎_elim, arith, length-append, length-drop, take-append-drop, length-take, take-add}
+use Rattle.std.proofs.Common.{◌≡◌, ℕ, zero, suc, ◌-◌, ◌≤◌, true, ◌&&◌, eqb, leb, List, [], ◌∷◌, ◌++◌, length, take, drop, Some, None, sym, ap, ◌∙◌, ⊎_elim, arith, length-append, length-drop, take-append-drop, length-take}
 use Rattle.std.specs.List.{concat}
-use Rattle.std.proofs.lemmas.List.{take_at, drop_at}
 use Rattle.std.proofs.lemmas.Bool.{cond-true, cond-false, le-leb, leb-true, eq-eqb, eqb-true, ne_eqb, and_parts, and_from, cases_eq, cases_Bool}
-use Rattle.anystr.specs.Elements.{offset, Boundary, Cut, Part}
+use Rattle.anystr.specs.Elements.{offset, Boundary, Cut}
 use Rattle.anystr.proofs.Parts.{concat-append}
 use Rattle.joins.specs.Joins.{on_boundary, can_cut, first_bad}
 use Rattle.anystr.specs.Places.{part}
@@ -63,18 +62,3 @@ offset-within es k = omega (arith, ap length (cut-joined k es), length-append (c
 -- the bytes of a place that can be cut out
 pub part-long : (es : List (List ℕ)) (a e : ℕ) → Cut es a e → length (part (concat es) (a, e)) ≡ e - a
 part-long es a e c = omega (arith, c.order, offset-within es c.end.0, c.end.1, length-take (e - a) (drop a (concat es)), length-drop a (concat es))
-
--- the bytes of the elements between two offsets are the bytes between them
-pub part_bytes : (es ps : List (List ℕ)) (a e : ℕ) → Part es ps a e → concat ps ≡ part (concat es) (a, e)
-part_bytes es ps a e c =
-    let f = c.from in
-    let n : ℕ = c.to - f in
-    let front = concat (take f es) in
-    let mid = concat (take n (drop f es)) in
-    let rest = concat (drop n (drop f es)) in
-    let whole : concat es ≡ front ++ (mid ++ rest) =
-    cut-joined f es ∙ ap (λ r. front ++ r) (cut-joined n (drop f es)) in
-    let to : f + n ≡ c.to = omega (arith, c.order) in
-    let more : take c.to es ≡ take f es ++ take n (drop f es) = ap (λ k. take k es) (sym to) ∙ take-add f n es in
-    let long : length mid ≡ e - a = omega (arith, ap length (ap concat more ∙ concat-append (take f es) (take n (drop f es))), length-append front mid, c.start, c.end) in
-    ap concat c.is ∙ sym (ap (λ bs. take (e - a) (drop a bs)) whole ∙ (ap (take (e - a)) (drop_at front (mid ++ rest) a c.start) ∙ take_at mid rest (e - a) long))

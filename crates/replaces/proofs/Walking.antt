@@ -1,18 +1,13 @@
 -- Going through a text element by element.
-use Rattle.std.proofs.Common.{◌≡◌, ℕ, zero, suc, ◌+◌, ◌-◌, ◌<◌, ◌≤◌, List, [], ◌∷◌, ◌++◌, length, get_or, take, drop, Some, None, sym, refl, ap, ◌∙◌, ⊎_elim, arith, length-append}
+use Rattle.std.proofs.Common.{◌≡◌, ℕ, ◌+◌, ◌-◌, ◌<◌, ◌≤◌, List, [], ◌∷◌, ◌++◌, length, get_or, take, drop, Some, None, sym, refl, ap, ◌∙◌, ⊎_elim, arith, length-append}
 use Rattle.std.specs.List.{concat}
 use Rattle.std.proofs.lemmas.List.{append-nil, take_more, drop_more, take_all, take_rest, drop_at}
 use Rattle.std.proofs.lemmas.Bool.{cases_lt}
 use Rattle.anystr.specs.Elements.{offset, element_at, Filled, Cut, Part}
-use Rattle.anystr.proofs.Begins.{begins, none-begins}
-use Rattle.anystr.proofs.Parts.{concat-append}
+use Rattle.anystr.proofs.Begins.{filled_at, begins, none-begins}
+use Rattle.anystr.proofs.Parts.{concat-append, concat-part}
 use Rattle.anystr.specs.Places.{part}
-use Rattle.joins.proofs.Places.{offset-within, cut-joined, part_bytes}
-
-filled_at : (es : List (List ℕ)) (k : ℕ) → Filled es → k < length es → 0 < length (get_or es k [])
-filled_at [] k f h = absurd (omega arith)
-filled_at (e ∷ es) zero f h = f.0
-filled_at (e ∷ es) (suc k) f h = filled_at es k f.1 (omega arith)
+use Rattle.joins.proofs.Places.{offset-within, cut-joined}
 
 -- an element has a byte at least
 pub count-within : (es : List (List ℕ)) → Filled es → length es ≤ length (concat es)
@@ -43,7 +38,7 @@ element_bytes es k h =
       end = refl;
       is = let n : 1 ≡ (k + 1) - k = omega arith in ap (λ xs. take 1 xs) (sym (drop_more es k [] h)) ∙ ap (λ m. take m (drop k es)) n;
     } in
-    sym (part_bytes es (get_or es k [] ∷ []) (offset es k) (offset es (k + 1)) one) ∙ append-nil (get_or es k [])
+    sym (concat-part es (get_or es k [] ∷ []) (offset es k) (offset es (k + 1)) one) ∙ append-nil (get_or es k [])
 
 -- the bytes of the elements from one on
 pub rest-bytes : (es : List (List ℕ)) (k : ℕ) → part (concat es) (offset es k, length (concat es)) ≡ concat (drop k es)

@@ -1,10 +1,10 @@
 -- Going through a text element by element.
-use Rattle.std.proofs.Common.{◌≡◌, ℕ, zero, suc, ◌+◌, ◌-◌, ◌<◌, ◌≤◌, List, [], ◌∷◌, ◌++◌, length, get_or, take, drop, Some, None, sym, refl, ap, ◌∙◌, subst, ⊎_elim, append_assoc, arith, length-append, take-append-drop}
+use Rattle.std.proofs.Common.{◌≡◌, ℕ, ◌+◌, ◌-◌, ◌<◌, ◌≤◌, List, [], ◌∷◌, ◌++◌, length, get_or, take, drop, Some, None, sym, refl, ap, ◌∙◌, subst, ⊎_elim, append_assoc, arith, length-append, take-append-drop}
 use Rattle.std.specs.List.{concat}
 use Rattle.std.proofs.lemmas.List.{append-nil, take_more, drop_more, take_all, take_at, drop_at}
 use Rattle.std.proofs.lemmas.Bool.{cond-true, cond-false, le-leb, ne_eqb, cases_lt}
 use Rattle.anystr.specs.Elements.{offset, element_at, Filled}
-use Rattle.anystr.proofs.Begins.{begins}
+use Rattle.anystr.proofs.Begins.{filled_at, begins}
 use Rattle.anystr.proofs.Parts.{concat-append}
 use Rattle.sheets.specs.Shown.{shown, shown_element}
 
@@ -30,11 +30,6 @@ pub record Stands (es : List (List ℕ)) (k : ℕ) (e : List ℕ) : Type 0 where
   pub fits : offset es k + length e ≤ length (concat es)
   pub bytes : take (length e) (drop (offset es k) (concat es)) ≡ e
   pub front : take (k + 1) es ≡ take k es ++ e ∷ []
-
-filled_at : (es : List (List ℕ)) (k : ℕ) → Filled es → k < length es → 0 < length (get_or es k [])
-filled_at [] k f h = absurd (omega arith)
-filled_at (e ∷ es) zero f h = f.0
-filled_at (e ∷ es) (suc k) f h = filled_at es k f.1 (omega arith)
 
 stands : (es : List (List ℕ)) (k : ℕ) → Filled es → k < length es → Stands es k (get_or es k [])
 stands es k f h =

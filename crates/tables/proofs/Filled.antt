@@ -1,5 +1,5 @@
 -- The answer of a call that appends to a tray, by the test that decides it.
-use Rattle.std.proofs.Common.{◌≡◌, ℕ, ◌≤◌, Bool, true, false, cond, List, ◌++◌, length, drop, Ok, Err, Result, sym, subst, arith}
+use Rattle.std.proofs.Common.{◌≡◌, ℕ, Bool, true, false, cond, List, Ok, Err, Result, sym, subst}
 use Rattle.std.proofs.lemmas.Bool.{cond-true, cond-false}
 use Rattle.anystr.specs.declared.refusal.Refusal.{Refusal}
 use Rattle.anystr.specs.Refusals.{coded}
@@ -12,11 +12,6 @@ module _ {X : Type 0} (t : Bool) (bytes : List ℕ) (code : ℕ × ℕ) (held sp
 
   pub refused-if : t ≡ false → coded r ≡ Err code → held' ≡ held → spare' ≡ spare → Fills (cond t (Ok bytes) (Err code)) held spare held' spare' r
   refused-if e c h s = subst (λ (a : Result (List ℕ) (ℕ × ℕ)). Fills a held spare held' spare' r) (sym (cond-false t (Ok bytes) (Err code) e)) (c, h, s)
-
--- a push of bytes that fit is taken
-pub took : {X : Type 0} (bytes held spare held' spare' : List ℕ) (r : Result X Refusal) → length bytes ≤ length spare → Pushed bytes held spare held' spare' r → (held' ≡ held ++ bytes) × (spare' ≡ drop (length bytes) spare)
-took bytes held spare held' spare' (Ok _) fits p = (p.1, p.2)
-took bytes held spare held' spare' (Err _) fits p = absurd (omega (arith, p.0))
 
 -- what holds of bytes that are pushed holds of those that are appended
 pub pushed_appends : {X : Type 0} (P : List ℕ → Type 0) (bytes held spare held' spare' : List ℕ) (r : Result X Refusal) → P bytes → Pushed bytes held spare held' spare' r → Appends held held' P r

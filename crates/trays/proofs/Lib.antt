@@ -1,2 +1,3 @@
 pub mod Ends
 pub mod Writes
+pub mod Pushes

@@ -3,7 +3,7 @@ use Rattle.std.specs.List.{concat}
 use Rattle.std.proofs.lemmas.List.{drop_all}
 use Rattle.anystr.specs.Places.{stretches, join_parts}
 use Rattle.cutters.proofs.Pouring.{Pouring}
-use Rattle.joins.proofs.Places.{part_bytes}
+use Rattle.anystr.proofs.Parts.{concat-part}
 use Rattle.joins.proofs.Joining.{good-here, good_more, to-come, last-poured, more-poured, all_poured}
 use Rattle.joins.proofs.pour.Goals as goal
 use Rattle.joins.proofs.pour.Goals.{then-i-n, else-i-n}
@@ -19,7 +19,7 @@ loop-i-preserved g c =
     let i = c.loop-i.i in
     let lt : i < length places = omega arith in
     let cut = good-here sep es places i lt c.loop-i.invariant.0 in
-    let is = part_bytes es _ _ _ (c.get_bytes.ensures.given cut) in
+    let is = concat-part es _ _ _ (c.get_bytes.ensures.given cut) in
     let held = g.T.AnyStrContainer.held in
     let spare = g.T.AnyStrContainer.spare in
     let whole = join_parts sep (concat es) (stretches places) in

@@ -5,7 +5,8 @@ use Rattle.cutters.proofs.Ends.{end_on}
 use Rattle.cutters.proofs.Pouring.{Pouring}
 use Rattle.anystr.specs.Places.{part}
 use Rattle.joins.proofs.Joining.{to-come}
-use Rattle.joins.proofs.Places.{part_bytes, offset-within}
+use Rattle.joins.proofs.Places.{offset-within}
+use Rattle.anystr.proofs.Parts.{concat-part}
 use Rattle.replaces.specs.Replaces.{spread}
 use Rattle.replaces.proofs.Turning.{turned, ended, spread-out}
 use Rattle.replaces.proofs.Walking.{offset-all, element_here, none_here, rest-bytes}
@@ -37,7 +38,7 @@ loop-made-preserved g c =
       | in-Some w ↦
           let at = w.in-Some.ensures in
           let e = element_here es k c.loop-made.place w.in-Some.len _ (g.S.AnyStr.filled text) c.loop-made.invariant.0 at.element at.len in
-          let is = part_bytes es _ _ _ (w.get_bytes.ensures.given e.cut) ∙ e.bytes in
+          let is = concat-part es _ _ _ (w.get_bytes.ensures.given e.cut) ∙ e.bytes in
           (w.place-is ∙ e.next, subst poured (sym w.tray-is) (turned to es count k _ _ _ _ _ c.loop-made.invariant.1 lt e.within _ _ c.push_str.result c.push_str.ensures _ _ _ w.push_str-in-Some.result is w.push_str-in-Some.ensures))
       | in_default w ↦
           let past = none_here es k c.loop-made.place (g.S.AnyStr.filled text) c.loop-made.invariant.0 w.in_default.ensures.element in
@@ -55,6 +56,6 @@ returns g c =
       start = (k, sym at);
       end = ((end_on es).0, (end_on es).1 ∙ sym len);
     } in
-    let is = part_bytes es _ _ _ (c.get_bytes-2.ensures.given cut) ∙ (ap (λ a. part (concat es) (a, c.bytes_len.result)) at ∙ (ap (λ b. part (concat es) (offset es k, b)) len ∙ rest-bytes es k)) in
+    let is = concat-part es _ _ _ (c.get_bytes-2.ensures.given cut) ∙ (ap (λ a. part (concat es) (a, c.bytes_len.result)) at ∙ (ap (λ b. part (concat es) (offset es k, b)) len ∙ rest-bytes es k)) in
     let out = spread-out (concat (g.S.AnyStr.elements c.args.to.now)) es c.args.copies k _ _ _ _ _ c.loop-made.invariant.1 c.loop-made-test.false _ _ _ c.push_str-2.result is c.push_str-2.ensures in
     record { held = out.0; spare = out.1 }

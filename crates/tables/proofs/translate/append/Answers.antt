@@ -1,7 +1,7 @@
 use Rattle.std.proofs.Common.{◌≡◌, ◌≤◌, ◌++◌, length, drop, ap, ◌∙◌, arith}
 use Rattle.std.specs.List.{concat}
 use Rattle.anystr.specs.OfBytes.{singles, concat-singles}
-use Rattle.tables.proofs.Filled.{took}
+use Rattle.trays.proofs.Pushes.{took}
 use Rattle.tables.proofs.translate.append.Goals as goal
 
 pub returns : goal.returns

@@ -1,4 +1,4 @@
-use Rattle.cutters.proofs.Pouring.{took}
+use Rattle.trays.proofs.Pushes.{took}
 use Rattle.cutters.proofs.cutter.calls.append.Goals as goal
 
 pub returns : goal.returns
