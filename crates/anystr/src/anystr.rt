@@ -7,6 +7,7 @@ ghost use Rattle.anystr.specs.Limits.{most_bytes};
 ghost use Rattle.anystr.specs.Refusals.{PassesIf};
 
 use super::refusal::Refusal;
+use std::ops::Range;
 
 // The most bytes that a text may have.
 pub const MAX_BYTES: usize = 16_777_216;
@@ -50,15 +51,14 @@ pub trait AnyStr: Copy {
         self.bytes_len() == 0
     }
 
-    // Whether the stretch from `start` to `end` can be cut out: it does not run backward, and both ends are
-    // boundaries.
-    fn check_bytes(&self, start: usize, end: usize) -> Result<(), Refusal>
-        ensures { PassesIf (Cut (elements self.now) start end) (12, 0) result };
+    // Whether the range can be cut out: it does not run backward, and both ends are boundaries.
+    fn check_bytes(&self, range: Range<usize>) -> Result<(), Refusal>
+        ensures { PassesIf (Cut (elements self.now) range.start range.end) (12, 0) result };
 
     // The view of just these bytes; the empty text where `check_bytes` refuses.
-    fn get_bytes(&self, start: usize, end: usize) -> Self
-        ensures given { Cut (elements self.now) start end → Part (elements self.now) (elements result) start end }
-        ensures refused { (Cut (elements self.now) start end → ⊥) → elements result ≡ [] };
+    fn get_bytes(&self, range: Range<usize>) -> Self
+        ensures given { Cut (elements self.now) range.start range.end → Part (elements self.now) (elements result) range.start range.end }
+        ensures refused { (Cut (elements self.now) range.start range.end → ⊥) → elements result ≡ [] };
 
     // The number of elements.
     fn element_count(&self) -> usize

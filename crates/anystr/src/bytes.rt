@@ -1,11 +1,12 @@
 // The kind of text whose elements are bytes.
-ghost use Rattle.std.specs.Prelude.{◌≡◌, ℕ, ◌<◌, ◌≤◌, List, [], ◌∷◌, length};
+ghost use Rattle.std.specs.Prelude.{◌≡◌, ℕ, ◌<◌, ◌≤◌, List, [], ◌∷◌, length, MatchResult};
 ghost use Rattle.anystr.specs.Limits.{most_bytes};
 ghost use Rattle.anystr.specs.OfBytes.{singles, few as few_bytes, filled as filled_bytes, whole as whole_bytes};
-ghost use Rattle.anystr.specs.Refusals.{PassesIf};
+ghost use Rattle.anystr.specs.Refusals.{code, PassesIf};
 
 use super::anystr::{AnyStr, MAX_BYTES};
 use super::refusal::Refusal;
+use std::ops::Range;
 
 // A text of bytes: every offset is a boundary.
 #[derive(Clone, Copy)]
@@ -14,16 +15,27 @@ pub struct Bytes<'a> {
     ghost few: { length bytes.now ≤ most_bytes },
 }
 
+impl<'a> TryFrom<&'a [u8]> for Bytes<'a> {
+    type Error = Refusal;
+
+    ghost try_from_gives = { λ bytes r. MatchResult r (λ text. (length bytes.now ≤ most_bytes) × (singles text.bytes.now ≡ singles bytes.now)) (λ e. (length bytes.now ≤ most_bytes → ⊥) × (code e ≡ (6, 0))) };
+
+    // The text of the bytes; refused where they are too many.
+    fn try_from(bytes: &'a [u8]) -> Result<Bytes<'a>, Refusal> {
+        if bytes.len() > MAX_BYTES {
+            Err(Refusal::TooLong)
+        } else {
+            Ok(Bytes { bytes })
+        }
+    }
+}
+
 impl<'a> Bytes<'a> {
     // Whether the bytes can be a text.
     pub fn check(bytes: &[u8]) -> Result<(), Refusal>
         ensures { PassesIf (length bytes.now ≤ most_bytes) (6, 0) result }
     {
-        if bytes.len() > MAX_BYTES {
-            Err(Refusal::TooLong)
-        } else {
-            Ok(())
-        }
+        Bytes::try_from(bytes).map(|_| ())
     }
 
     // The text of the bytes; the empty text where `check` refuses.
@@ -31,10 +43,7 @@ impl<'a> Bytes<'a> {
         ensures given { length bytes.now ≤ most_bytes → singles result.bytes.now ≡ singles bytes.now }
         ensures refused { most_bytes < length bytes.now → singles result.bytes.now ≡ [] }
     {
-        let Ok(()) = Bytes::check(bytes) else {
-            return Bytes { bytes: &[] };
-        };
-        Bytes { bytes }
+        Bytes::try_from(bytes).unwrap_or(Bytes { bytes: &[] })
     }
 }
 
@@ -55,20 +64,17 @@ impl<'a> AnyStr for Bytes<'a> {
         self.bytes
     }
 
-    fn check_bytes(&self, start: usize, end: usize) -> Result<(), Refusal> {
-        if start <= end && end <= self.bytes.len() {
+    fn check_bytes(&self, range: Range<usize>) -> Result<(), Refusal> {
+        if range.start <= range.end && range.end <= self.bytes.len() {
             Ok(())
         } else {
             Err(Refusal::BadPlace { index: 0 })
         }
     }
 
-    fn get_bytes(&self, start: usize, end: usize) -> Self {
-        let Ok(()) = self.check_bytes(start, end) else {
-            return Bytes { bytes: &[] };
-        };
+    fn get_bytes(&self, range: Range<usize>) -> Self {
         Bytes {
-            bytes: &self.bytes[start..end],
+            bytes: self.bytes.get(range).unwrap_or(&[]),
         }
     }
 
@@ -77,10 +83,7 @@ impl<'a> AnyStr for Bytes<'a> {
     }
 
     fn element_at(&self, offset: usize) -> Option<(u8, usize)> {
-        if offset < self.bytes.len() {
-            Some((self.bytes[offset], 1))
-        } else {
-            None
-        }
+        let byte = self.bytes.get(offset)?;
+        Some((*byte, 1))
     }
 }

@@ -20,13 +20,7 @@ pub fn adjust_indices(start: Option<i64>, end: Option<i64>, len: usize) -> Range
     ensures start { result.start ≡ start_of start len }
     ensures end { result.end ≡ end_of end len }
 {
-    let from = match start {
-        Some(index) => offset(index, len),
-        None => 0,
-    };
-    let to = match end {
-        Some(index) => offset(index, len).min(len),
-        None => len,
-    };
+    let from = start.map_or(0, |index| offset(index, len));
+    let to = end.map_or(len, |index| offset(index, len).min(len));
     from..to
 }

@@ -1,6 +1,22 @@
 // An argument that a caller may leave out.
+ghost use Rattle.std.specs.Prelude.{◌≡◌};
+ghost use Rattle.std.specs.Option.{MatchOption};
+ghost use Rattle.anystr.specs.declared.optional.OptionalArg.TheVariants.{Present, Missing};
+
+// The argument, or none.
 #[derive(Clone, Copy)]
 pub enum OptionalArg<T> {
     Present(T),
     Missing,
+}
+
+impl<T> From<Option<T>> for OptionalArg<T> {
+    ghost from_gives = { λ argument result. MatchOption argument (result ≡ Missing) (λ value. result ≡ Present value) };
+
+    fn from(argument: Option<T>) -> OptionalArg<T> {
+        match argument {
+            Some(value) => OptionalArg::Present(value),
+            None => OptionalArg::Missing,
+        }
+    }
 }

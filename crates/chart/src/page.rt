@@ -157,7 +157,7 @@ impl<W: Write> Page<W> {
         let mut number: usize = 0;
         for place in places {
             number = number.saturating_add(1);
-            let content = sheet.get_bytes(place.start, place.end);
+            let content = sheet.get_bytes(place.start..place.end);
             self.field(number, place.start, place.end, &content)?;
         }
         Ok(())

@@ -28,7 +28,7 @@ fn show_fields<W: Write, S: AsciiStr>(
         if field.start == field.end {
             tally.empty = tally.empty.saturating_add(1);
         }
-        let content = row.get_bytes(field.start, field.end);
+        let content = row.get_bytes(field.start..field.end);
         page.field(
             number,
             base.saturating_add(field.start),
@@ -60,7 +60,7 @@ fn show_rows<W: Write, S: AsciiStr>(
         }
         tally.rows = tally.rows.saturating_add(1);
         page.row(tally.rows, row.start, row.end)?;
-        let text = sheet.get_bytes(row.start, row.end);
+        let text = sheet.get_bytes(row.start..row.end);
         show_fields(page, text, comma, row.start, &mut tally)?;
         show_calls(page, text, comma, gap, row.start)?;
         show_label(page, text, comma, gap, row.start)?;

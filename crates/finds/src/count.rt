@@ -37,7 +37,7 @@ fn times_between(text: &Bytes<'_>, needle: &Bytes<'_>, start: usize, end: usize)
     if needle.is_empty() {
         return end - start + 1;
     }
-    cuts(text.get_bytes(start, end), *needle)
+    cuts(text.get_bytes(start..end), *needle)
 }
 
 // How often the sub stands in the text without overlap, counted from the front, from the start that is meant to the

@@ -22,7 +22,7 @@ fn first_place(text: &Bytes<'_>, needle: &Bytes<'_>, start: usize, end: usize) -
     if needle.is_empty() {
         return Some(start);
     }
-    let part = text.get_bytes(start, end);
+    let part = text.get_bytes(start..end);
     let mark = Substring::new(*needle).find(&part, 0)?;
     Some(start + mark.start)
 }
@@ -38,7 +38,7 @@ fn last_place(text: &Bytes<'_>, needle: &Bytes<'_>, start: usize, end: usize) ->
     if needle.is_empty() {
         return Some(end);
     }
-    let part = text.get_bytes(start, end);
+    let part = text.get_bytes(start..end);
     let mark = Substring::new(*needle).rfind(&part, end - start)?;
     Some(start + mark.start)
 }

@@ -27,7 +27,7 @@ fn measure<S: AnyStr>(sep: &S, text: &S, places: &[Place]) -> Result<u64, Refusa
     let mut sum: u64 = 0;
     for i in 0..n {
         let place = places[i];
-        let Ok(()) = text.check_bytes(place.start, place.end) else {
+        let Ok(()) = text.check_bytes(place.start..place.end) else {
             return Err(Refusal::BadPlace { index: i as u64 });
         };
         sum += (place.end - place.start) as u64;
@@ -48,7 +48,7 @@ fn pour<S: AnyStr, T: AnyStrContainer>(sep: &S, text: &S, places: &[Place], tray
     let n = places.len();
     for i in 0..n {
         let place = places[i];
-        let _ = tray.push_str(&text.get_bytes(place.start, place.end));
+        let _ = tray.push_str(&text.get_bytes(place.start..place.end));
         if i + 1 < n {
             let _ = tray.push_str(sep);
         }

@@ -73,11 +73,11 @@ fn spread_copies<S: AnyStr, T: AnyStrContainer>(text: &S, to: &S, copies: u64, t
         let _ = tray.push_str(to);
         if let Some((_, len)) = text.element_at(place) {
             let end = place + len;
-            let _ = tray.push_str(&text.get_bytes(place, end));
+            let _ = tray.push_str(&text.get_bytes(place..end));
             place = end;
         }
     }
-    let _ = tray.push_str(&text.get_bytes(place, text.bytes_len()));
+    let _ = tray.push_str(&text.get_bytes(place..text.bytes_len()));
 }
 
 // The text with this many copies of `to`: one before each element, and the last at the end.

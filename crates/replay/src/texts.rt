@@ -23,8 +23,8 @@ pub fn add_element<'a, S: Kind<'a>>(case: &'a Element, page: &mut Page) {
 
 fn part<'a, S: Kind<'a>>(case: &'a Part) -> Result<S, Refusal> {
     let text: S = make(&case.text)?;
-    text.check_bytes(case.start, case.end)?;
-    Ok(text.get_bytes(case.start, case.end))
+    text.check_bytes(case.start..case.end)?;
+    Ok(text.get_bytes(case.start..case.end))
 }
 
 // A stretch of a text.

@@ -508,7 +508,7 @@ fn labels(rt: &impl Abort, bytes: &[u8], answer: (u8, u64), shown: usize) {
     assert_eq!(rt; code(cutter.pour(&Bytes::new(b""), &mut label)), answer);
     assert_eq!(rt;
         label.as_bytes(),
-        Bytes::new(bytes).get_bytes(0, shown).as_bytes()
+        Bytes::new(bytes).get_bytes(0..shown).as_bytes()
     );
 }
 

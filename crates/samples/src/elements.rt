@@ -57,12 +57,12 @@ fn cuts<S: AnyStr>(
 ) {
     let answer = if part.is_some() { PASSES } else { (12, 0) };
     assert_eq!(rt;
-        code(text.check_bytes(start, end)),
+        code(text.check_bytes(start..end)),
         answer,
         "{kind} {start} {end}"
     );
     assert_eq!(rt;
-        text.get_bytes(start, end).as_bytes(),
+        text.get_bytes(start..end).as_bytes(),
         part.unwrap_or(b""),
         "{kind} {start} {end}"
     );

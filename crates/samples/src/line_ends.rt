@@ -70,12 +70,12 @@ fn from_the_front<S: AsciiStr>(rt: &impl Abort, kind: &str, text: &S, lines: &[L
             None => (text.bytes_len(), text.bytes_len()),
         };
         assert_eq!(rt;
-            text.get_bytes(start, stop).as_bytes(),
+            text.get_bytes(start..stop).as_bytes(),
             *line,
             "{kind} {bytes:?}"
         );
         assert_eq!(rt;
-            text.get_bytes(start, end).as_bytes(),
+            text.get_bytes(start..end).as_bytes(),
             *piece,
             "{kind} {bytes:?}"
         );
@@ -99,12 +99,12 @@ fn from_the_back<S: AsciiStr>(rt: &impl Abort, kind: &str, text: &S, lines: &[Li
             None => 0,
         };
         assert_eq!(rt;
-            text.get_bytes(start, stop).as_bytes(),
+            text.get_bytes(start..stop).as_bytes(),
             *line,
             "{kind} {bytes:?}"
         );
         assert_eq!(rt;
-            text.get_bytes(start, end).as_bytes(),
+            text.get_bytes(start..end).as_bytes(),
             *piece,
             "{kind} {bytes:?}"
         );

@@ -1,9 +1,8 @@
 // The kind of text whose elements are Unicode scalar values in UTF-8.
 #![tactic(auto)]
 
-ghost use Rattle.std.specs.Prelude.{◌≡◌, ◌≤◌, [], length, Decides, MatchResult};
+ghost use Rattle.std.specs.Prelude.{◌≡◌, ◌≤◌, [], length, MatchResult};
 ghost use Rattle.std.proofs.Math.Utf8.{encode};
-ghost use Rattle.std.specs.Str as words;
 ghost use Rattle.utf8.specs.Table.{WellFormed, TableIsUtf8};
 ghost use Rattle.utf8.proofs.Rows.{utf8_had};
 ghost use Rattle.text.specs.Checks.{Textual, NotText};
@@ -12,13 +11,34 @@ ghost use Rattle.text.specs.OfText.{letters, filled as filled_text, few as few_t
 
 use anystr::anystr::{AnyStr, MAX_BYTES};
 use anystr::refusal::Refusal;
+use std::ops::Range;
+use utf8::check_utf8;
 
 // A text of characters. Its bytes are well formed by Table 3-7 of the Unicode Standard.
 #[derive(Clone, Copy)]
 pub struct Text<'a> {
-    bytes: &'a [u8],
-    ghost few: { length bytes.now ≤ most_bytes },
-    ghost formed: { ∥ WellFormed bytes.now ∥₁ },
+    text: &'a str,
+    ghost few: { length text.now ≤ most_bytes },
+    ghost formed: { ∥ WellFormed text.now ∥₁ },
+}
+
+impl<'a> TryFrom<&'a [u8]> for Text<'a> {
+    type Error = Refusal;
+
+    ghost try_from_gives = { λ bytes r. MatchResult r (λ text. Textual bytes.now × (letters text.text.now ≡ letters bytes.now)) (λ e. NotText bytes.now e) };
+
+    // The text of the bytes; refused where they are too many or ill formed.
+    fn try_from(bytes: &'a [u8]) -> Result<Text<'a>, Refusal> {
+        if bytes.len() > MAX_BYTES {
+            return Err(Refusal::TooLong);
+        }
+        match check_utf8(bytes) {
+            Ok(text) => Ok(Text { text }),
+            Err(formed) => Err(Refusal::IllFormed {
+                formed: formed as u64,
+            }),
+        }
+    }
 }
 
 impl<'a> Text<'a> {
@@ -27,86 +47,64 @@ impl<'a> Text<'a> {
         ensures cases { MatchResult result (λ _. Textual bytes.now) (λ e. NotText bytes.now e) }
         ensures table { TableIsUtf8 }
     {
-        if bytes.len() > MAX_BYTES {
-            return Err(Refusal::TooLong);
-        }
-        match utf8::check_utf8(bytes) {
-            Ok(()) => Ok(()),
-            Err(formed) => Err(Refusal::IllFormed {
-                formed: formed as u64,
-            }),
-        }
+        Text::try_from(bytes).map(|_| ())
     }
 
     // The text of the bytes; the empty text where `check` refuses.
     pub fn new(bytes: &'a [u8]) -> Text<'a>
-        ensures given { Textual bytes.now → letters result.bytes.now ≡ letters bytes.now }
-        ensures refused { (Textual bytes.now → ⊥) → letters result.bytes.now ≡ [] }
+        ensures given { Textual bytes.now → letters result.text.now ≡ letters bytes.now }
+        ensures refused { (Textual bytes.now → ⊥) → letters result.text.now ≡ [] }
     {
-        let Ok(()) = Text::check(bytes) else {
-            return Text { bytes: &[] };
-        };
-        Text { bytes }
+        Text::try_from(bytes).unwrap_or(Text { text: "" })
     }
-}
-
-// Whether a character begins at `offset`, or the bytes end there: no continuation byte stands there.
-fn is_boundary(bytes: &[u8], offset: usize) -> bool
-    ensures { Decides result (words.IsCharBoundary bytes.now offset) }
-{
-    if offset >= bytes.len() {
-        return offset == bytes.len();
-    }
-    let b = bytes[offset];
-    b < 0x80 || 0xC0 <= b
 }
 
 impl<'a> AnyStr for Text<'a> {
     type Char = char;
 
-    ghost elements = { λ s. letters s.bytes.now };
+    ghost elements = { λ s. letters s.text.now };
 
     ghost encoded = { encode };
 
-    ghost filled = { λ s. filled_text s.bytes.now };
+    ghost filled = { λ s. filled_text s.text.now };
 
-    ghost few = { λ s. few_text s.bytes.now (utf8_had s.bytes.now s.formed) s.few };
+    ghost few = { λ s. few_text s.text.now (utf8_had s.text.now s.formed) s.few };
 
-    ghost whole = { λ s t p. whole_text s.bytes.now t.bytes.now p (utf8_had s.bytes.now s.formed) (utf8_had t.bytes.now t.formed) };
+    ghost whole = { λ s t p. whole_text s.text.now t.text.now p (utf8_had s.text.now s.formed) (utf8_had t.text.now t.formed) };
 
     fn as_bytes(&self) -> &[u8] {
-        self.bytes
+        self.text.as_bytes()
     }
 
-    fn check_bytes(&self, start: usize, end: usize) -> Result<(), Refusal> {
-        if start <= end && is_boundary(self.bytes, start) && is_boundary(self.bytes, end) {
+    fn check_bytes(&self, range: Range<usize>) -> Result<(), Refusal> {
+        if range.start <= range.end
+            && self.text.is_char_boundary(range.start)
+            && self.text.is_char_boundary(range.end)
+        {
             Ok(())
         } else {
             Err(Refusal::BadPlace { index: 0 })
         }
     }
 
-    fn get_bytes(&self, start: usize, end: usize) -> Self {
-        let Ok(()) = self.check_bytes(start, end) else {
-            return Text { bytes: &[] };
+    fn get_bytes(&self, range: Range<usize>) -> Self {
+        let Ok(()) = self.check_bytes(range.start..range.end) else {
+            return Text { text: "" };
         };
         Text {
-            bytes: &self.bytes[start..end],
+            text: &self.text[range],
         }
     }
 
     fn element_count(&self) -> usize {
-        // the type's invariant is what the library asks of text
-        let text = unsafe { std::str::from_utf8_unchecked(self.bytes) };
-        text.chars().count()
+        self.text.chars().count()
     }
 
     fn element_at(&self, offset: usize) -> Option<(char, usize)> {
-        if offset >= self.bytes.len() || !is_boundary(self.bytes, offset) {
+        if !self.text.is_char_boundary(offset) {
             return None;
         }
-        let rest = unsafe { std::str::from_utf8_unchecked(&self.bytes[offset..]) };
-        let c = rest.chars().next()?;
+        let c = self.text[offset..].chars().next()?;
         Some((c, c.len_utf8()))
     }
 }

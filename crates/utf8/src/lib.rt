@@ -1,16 +1,17 @@
 // Well-formed UTF-8, as Table 3-7 of the Unicode Standard has it.
 #![tactic(auto)]
 
-ghost use Rattle.std.specs.Prelude.{length, MatchResult};
+ghost use Rattle.std.specs.Prelude.{◌≡◌, length, MatchResult};
 ghost use Rattle.utf8.specs.Table.{WellFormed, Longest, TableIsUtf8};
 
-// Ok for well-formed bytes; else the length of their longest well-formed beginning.
-pub fn check_utf8(bytes: &[u8]) -> Result<(), usize>
-    ensures cases { MatchResult result (λ _. WellFormed bytes.now) (λ n. (WellFormed bytes.now → ⊥) × Longest bytes.now n) }
+// Well-formed bytes as text; for others the length of their longest well-formed beginning.
+pub fn check_utf8(bytes: &[u8]) -> Result<&str, usize>
+    ensures cases { MatchResult result (λ text. (text.now ≡ bytes.now) × WellFormed bytes.now) (λ n. (WellFormed bytes.now → ⊥) × Longest bytes.now n) }
     ensures table { TableIsUtf8 }
 {
+    // a match: of `map_err` the proof does not learn which number the error gave
     match std::str::from_utf8(bytes) {
-        Ok(_) => Ok(()),
+        Ok(text) => Ok(text),
         Err(e) => Err(e.valid_up_to()),
     }
 }

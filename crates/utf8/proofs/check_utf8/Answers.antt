@@ -5,7 +5,7 @@ use Rattle.utf8.proofs.check_utf8.Goals as goal
 
 pub returns-in-Ok : goal.returns-in-Ok
 returns-in-Ok c = record {
-  cases = formed-from_utf8 c.args.bytes.now c.in-Ok.ensures.cases.1;
+  cases = (c.in-Ok.ensures.cases.0, formed-from_utf8 c.args.bytes.now c.in-Ok.ensures.cases.1);
   table = λ bs. (utf8_from_formed bs, formed-from_utf8 bs);
 }
 

@@ -1,26 +1,25 @@
-use Rattle.std.proofs.Common.{◌≡◌, Some, sym, refl, ap, ◌∙◌, arith, length-take}
+use Rattle.std.proofs.Common.{◌≡◌, ◌<◌, ◌≤◌, [], ◌∷◌, length, slice_index, Some, sym, ap, ◌∙◌, arith, length-take}
 use Rattle.std.proofs.lemmas.List.{length-take-le}
+use Rattle.std.proofs.lemmas.Grind.{get_or_default_zero}
 use Rattle.anystr.specs.Elements.{element_at, offset}
 use Rattle.anystr.specs.OfBytes.{singles, filled, length-singles, offset-singles, get_or-singles}
 use Rattle.anystr.proofs.Begins.{begins, none-begins}
 use Rattle.anystr.proofs.bytes.BytesAnyStr.element_at.Goals as goal
 
-pub returns-then-offset-self : goal.returns-then-offset-self
-returns-then-offset-self c =
+pub returns-in_err-byte-clause-element : goal.returns-in_err-byte-clause-element
+returns-in_err-byte-clause-element c =
+    let bs = c.args.self.now.bytes.now in
+    let past : length bs ≤ c.args.offset = c.in_err-byte.ensures.lookup.3 in
+    let l = length-singles bs in
+    rw c.from_residual.ensures (sym (none-begins (singles bs) c.args.offset (λ k h e. omega (arith, offset-singles k bs, length-take k bs))))
+
+pub returns-clause-element : goal.returns-clause-element
+returns-clause-element c =
     let bs = c.args.self.now.bytes.now in
     let at = c.args.offset in
+    let found = c.in_ok-byte.ensures.lookup in
+    let within : at < length bs = found.3.0 in
+    let is : c.in_ok-byte.byte.now ≡ slice_index bs at = found.1 ∙ get_or_default_zero bs at _ within in
     let l = length-singles bs in
     let here : offset (singles bs) at ≡ at = offset-singles at bs ∙ length-take-le at bs (omega arith) in
-    record {
-      element = sym (ap (element_at (singles bs)) (sym here) ∙ (begins (singles bs) at (filled bs) (omega arith) ∙ ap Some (get_or-singles bs at (omega arith))));
-      len = refl;
-    }
-
-pub returns-else-offset-self : goal.returns-else-offset-self
-returns-else-offset-self c =
-    let bs = c.args.self.now.bytes.now in
-    let l = length-singles bs in
-    record {
-      element = sym (none-begins (singles bs) c.args.offset (λ k h e. omega (arith, offset-singles k bs, length-take k bs)));
-      len = tt;
-    }
+    ap (λ b. Some (b ∷ [])) is ∙ sym (ap (element_at (singles bs)) (sym here) ∙ (begins (singles bs) at (filled bs) (omega arith) ∙ ap Some (get_or-singles bs at within)))

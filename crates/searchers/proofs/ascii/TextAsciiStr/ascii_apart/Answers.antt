@@ -7,7 +7,7 @@ use Rattle.searchers.proofs.ascii.TextAsciiStr.ascii_apart.Goals as goal
 
 pub returns : goal.returns
 returns c p within low =
-    let bs = c.args.self.now.bytes.now in
+    let bs = c.args.self.now.text.now in
     let u = utf8_had bs c.args.self.now.formed in
     let e = concat-letters bs u in
     let w : p < length bs = omega (arith, ap length e) in
