@@ -9,9 +9,5 @@ pub fn check_utf8(bytes: &[u8]) -> Result<&str, usize>
     ensures cases { MatchResult result (λ text. (text.now ≡ bytes.now) × WellFormed bytes.now) (λ n. (WellFormed bytes.now → ⊥) × Longest bytes.now n) }
     ensures table { TableIsUtf8 }
 {
-    // a match: of `map_err` the proof does not learn which number the error gave
-    match std::str::from_utf8(bytes) {
-        Ok(text) => Ok(text),
-        Err(e) => Err(e.valid_up_to()),
-    }
+    std::str::from_utf8(bytes).map_err(|e| e.valid_up_to())
 }
