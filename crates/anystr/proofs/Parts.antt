@@ -1,14 +1,11 @@
 -- Parts of a text, by its elements and by its bytes.
 use Rattle.std.proofs.Common.{◌≡◌, ℕ, ◌+◌, ◌-◌, ◌≤◌, List, [], ◌∷◌, ◌++◌, length, take, drop, sym, refl, ap, ◌∙◌, append_assoc, arith, length-append, length-drop, take-append-drop, length-take, take-add}
+use Rattle.std.proofs.lemmas.List.Folds.{concat-append}
 use Rattle.std.proofs.lemmas.List.{take_at, drop_at, length-take-le}
 use Rattle.std.specs.List.{concat}
 use Rattle.anystr.specs.Elements.{Part}
 use Rattle.anystr.specs.OfBytes.{singles, concat-singles}
 use Rattle.anystr.specs.Places.{part}
-
-pub concat-append : (xs ys : List (List ℕ)) → concat (xs ++ ys) ≡ concat xs ++ concat ys
-concat-append [] ys = refl
-concat-append (x ∷ xs) ys = ap (λ r. x ++ r) (concat-append xs ys) ∙ sym (append_assoc x (concat xs) (concat ys))
 
 -- the bytes are those before the elements of the part, theirs, and those after them
 pub concat-part : (es ps : List (List ℕ)) (a b : ℕ) → Part es ps a b → concat ps ≡ part (concat es) (a, b)

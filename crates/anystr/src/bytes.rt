@@ -1,5 +1,5 @@
 // The kind of text whose elements are bytes.
-ghost use Rattle.std.specs.Prelude.{◌≡◌, ℕ, ◌<◌, ◌≤◌, List, [], ◌∷◌, length, MatchResult};
+ghost use Rattle.std.specs.Prelude.{◌≡◌, ◌<◌, ◌≤◌, [], ◌∷◌, length, MatchResult};
 ghost use Rattle.anystr.specs.Limits.{most_bytes};
 ghost use Rattle.anystr.specs.OfBytes.{singles, few as few_bytes, filled as filled_bytes, whole as whole_bytes};
 ghost use Rattle.anystr.specs.Refusals.{code, PassesIf};

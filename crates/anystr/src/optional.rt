@@ -3,7 +3,7 @@ ghost use Rattle.std.specs.Prelude.{◌≡◌};
 ghost use Rattle.std.specs.Option.{MatchOption};
 ghost use Rattle.anystr.specs.declared.optional.OptionalArg.TheVariants.{Present, Missing};
 
-// The argument, or none.
+// The argument, or none. A type beside `Option`: its name and its cases are the Rust crate's.
 #[derive(Clone, Copy)]
 pub enum OptionalArg<T> {
     Present(T),

@@ -32,7 +32,8 @@ pub enum Refusal {
 }
 
 impl Refusal {
-    // The number of the refusal, and the whole number that it gives: 0 unless the case names one.
+    // The number of the refusal, and the whole number that it gives: 0 unless the case names one. Numbers, since that
+    // is how a sheet that is sent back tells its refusal.
     pub fn code(&self) -> (u8, u64)
         ensures { result ≡ code self.now }
     {

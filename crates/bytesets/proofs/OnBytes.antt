@@ -2,7 +2,7 @@
 use Rattle.std.proofs.Common.{ℕ, Bool, List, length, ap, arith}
 use Rattle.std.specs.List.{concat}
 use Rattle.anystr.specs.OfBytes.{singles, concat-singles, boundary}
-use Rattle.searchers.proofs.Answered.{Bounded}
+use Rattle.searchers.specs.Marks.{Bounded}
 use Rattle.bytesets.specs.Sets.{single, single-is}
 
 -- in Bytes every offset is a boundary

@@ -1,5 +1,6 @@
 -- The marks of a set of bytes: its single bytes. Assumes nothing.
-use Rattle.std.specs.Prelude.{◌≡◌, ℕ, suc, ◌<◌, ◌≤◌, Bool, true, false, ◌&&◌, ◌||◌, T, List, [], ◌∷◌, length, Ok, Err, Result, ◌==◌, nat_lt, slice_index, slice_index_or}
+use Rattle.std.specs.Prelude.{◌≡◌, ℕ, suc, ◌<◌, ◌≤◌, Bool, true, false, ◌&&◌, T, List, length, Ok, Err, Result, ◌==◌, nat_lt, slice_index, slice_index_or}
+use Rattle.std.specs.List.{list_any}
 use Rattle.std.proofs.Common.{arith, eqb-true, ltb-true}
 use Rattle.std.proofs.lemmas.Bool.{and_parts}
 use Rattle.anystr.specs.Refusals.{code}
@@ -9,8 +10,7 @@ use Rattle.searchers.specs.Truth.{true_of}
 
 -- whether a byte is one of these
 abbrev pub among : List ℕ → ℕ → Bool
-among [] b = false
-among (x ∷ xs) b = x == b || among xs b
+among bs b = list_any (λ x. x == b) bs
 
 -- whether a byte is in a set that is held as a table of all bytes
 abbrev pub member : List Bool → ℕ → Bool

@@ -2,12 +2,13 @@
 ghost use Rattle.std.specs.Prelude.{◌≡◌, ℕ, false};
 ghost use Rattle.std.specs.List.{concat};
 ghost use Rattle.bytesets.specs.Sets.{among, member, single, single-lawful, Ascii, AllLow, AsciiChecked};
+ghost use Rattle.bytesets.specs.OnText.{low-bounded};
 
 use super::byteset::ByteSet;
 use anystr::refusal::Refusal;
-use searchers::ascii::AsciiStr;
+use searchers::ascii::{AsciiPattern, AsciiStr, first_ascii_mark, last_ascii_mark};
 use searchers::mark::Mark;
-use searchers::scan::{first_mark, last_mark};
+use searchers::scan::Pattern;
 use searchers::searcher::{ReverseSearcher, Searcher};
 
 const FIRST_NON_ASCII: u8 = 128;
@@ -24,10 +25,9 @@ impl AsciiSet {
     pub fn check(bytes: &[u8]) -> Result<(), Refusal>
         ensures { AsciiChecked bytes.now result }
     {
-        match ByteSet::new(bytes).least_from(FIRST_NON_ASCII) {
-            Some(least) => Err(Refusal::NotAscii { least }),
-            None => Ok(()),
-        }
+        ByteSet::new(bytes)
+            .least_from(FIRST_NON_ASCII)
+            .map_or(Ok(()), |least| Err(Refusal::NotAscii { least }))
     }
 
     // The set of these bytes; the empty set where `check` refuses.
@@ -46,20 +46,36 @@ impl AsciiSet {
     }
 }
 
+impl Pattern for AsciiSet {
+    ghost marks = { λ f. single (member f.set.has) };
+
+    ghost lawful = { λ f. single-lawful (member f.set.has) };
+
+    fn mark_from(&self, bytes: &[u8], start: usize) -> Option<usize> {
+        self.set.mark_from(bytes, start)
+    }
+
+    fn mark_to(&self, bytes: &[u8], end: usize) -> Option<usize> {
+        self.set.mark_to(bytes, end)
+    }
+}
+
+impl AsciiPattern for AsciiSet {
+    ghost bounded = { λ f. low-bounded f.set.has f.low };
+}
+
 impl<S: AsciiStr> Searcher<S> for AsciiSet {
     ghost marks = { λ f es. single (member f.set.has) (concat es) };
 
     ghost lawful = { λ f es. single-lawful (member f.set.has) (concat es) };
 
     fn find(&self, text: &S, from: usize) -> Option<Mark> {
-        text.ascii_apart();
-        first_mark(&self.set, text.as_bytes(), from)
+        first_ascii_mark(self, text, from)
     }
 }
 
 impl<S: AsciiStr> ReverseSearcher<S> for AsciiSet {
     fn rfind(&self, text: &S, before: usize) -> Option<Mark> {
-        text.ascii_apart();
-        last_mark(&self.set, text.as_bytes(), before)
+        last_ascii_mark(self, text, before)
     }
 }

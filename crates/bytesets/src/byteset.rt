@@ -1,5 +1,5 @@
 // A set of bytes, and the search for its bytes.
-ghost use Rattle.std.specs.Prelude.{◌≡◌, ℕ, ◌<◌, ◌≤◌, true, false, MatchOption};
+ghost use Rattle.std.specs.Prelude.{◌≡◌, ℕ, ◌<◌, ◌≤◌, true, false, ◌||◌, ◌==◌, MatchOption};
 ghost use Rattle.std.specs.List.{concat};
 ghost use Rattle.bytesets.specs.Sets.{among, member, single, single-lawful};
 
@@ -9,7 +9,8 @@ use searchers::mark::Mark;
 use searchers::scan::{Pattern, first_mark, last_mark};
 use searchers::searcher::{ReverseSearcher, Searcher};
 
-const BYTE_VALUES: usize = 256;
+// The bytes that there are.
+pub const BYTE_VALUES: usize = 256;
 
 // A set of bytes, as a table of all of them.
 #[derive(Clone, Copy)]
@@ -22,23 +23,34 @@ impl ByteSet {
     pub fn new(bytes: &[u8]) -> ByteSet
         ensures { (b : ℕ) → member result.has b ≡ among bytes.now b }
     {
-        let mut has = [false; BYTE_VALUES];
+        let mut set = ByteSet {
+            has: [false; BYTE_VALUES],
+        };
         for b in bytes {
-            has[*b as usize] = true;
+            set.insert(*b);
         }
-        ByteSet { has }
+        set
+    }
+
+    // Whether the byte is in the set.
+    pub fn contains(&self, byte: u8) -> bool
+        ensures { result ≡ member self.now.has byte }
+    {
+        self.has[byte as usize]
+    }
+
+    // Adds the byte.
+    pub fn insert(&mut self, byte: u8)
+        ensures { (b : ℕ) → member self.new.has b ≡ (member self.old.has b || byte == b) }
+    {
+        self.has[byte as usize] = true;
     }
 
     // The least byte of the set at or above `low`.
     pub(super) fn least_from(&self, low: u8) -> Option<u8>
         ensures { MatchOption result ((b : ℕ) → low ≤ b → member self.now.has b ≡ false) (λ n. (low ≤ n) × (member self.now.has n ≡ true) × ((b : ℕ) → low ≤ b → b < n → member self.now.has b ≡ false)) }
     {
-        for b in low as usize..BYTE_VALUES {
-            if self.has[b] {
-                return Some(b as u8);
-            }
-        }
-        None
+        (low..=u8::MAX).find(|byte| self.contains(*byte))
     }
 }
 
@@ -48,21 +60,14 @@ impl Pattern for ByteSet {
     ghost lawful = { λ f. single-lawful (member f.has) };
 
     fn mark_from(&self, bytes: &[u8], start: usize) -> Option<usize> {
-        if start < bytes.len() && self.has[bytes[start] as usize] {
-            Some(start + 1)
-        } else {
-            None
-        }
+        let byte = bytes.get(start)?;
+        self.contains(*byte).then_some(start + 1)
     }
 
     fn mark_to(&self, bytes: &[u8], end: usize) -> Option<usize> {
-        if end == 0 {
-            return None;
-        }
-        match self.mark_from(bytes, end - 1) {
-            Some(_) => Some(end - 1),
-            None => None,
-        }
+        let start = end.checked_sub(1)?;
+        self.mark_from(bytes, start)?;
+        Some(start)
     }
 }
 

@@ -30,6 +30,7 @@ pub fn split<S: AnyStr>(
 
 // Lists the places that a text is split into from the end, in the order of the text. An empty separator is refused,
 // and then a list with too few entries.
+// As `split`, by its own two calls; a function over both calls would be longer than the two.
 pub fn rsplit<S: AnyStr>(
     text: &S,
     args: SplitArgs<S>,

@@ -4,18 +4,18 @@
 mod answer;
 mod calls;
 mod edit;
+mod fill;
 mod help;
-mod kind;
 mod page;
-mod search;
+mod row;
 mod sheet;
 mod split;
 mod stop;
 mod task;
 mod trouble;
 
-use answer::answer;
-use anystr::anystr::MAX_BYTES;
+use answer::show_answer;
+use anystr::anystr::{AnyStr, MAX_BYTES};
 use anystr::bytes::Bytes;
 use help::HELP;
 use page::Page;
@@ -23,32 +23,15 @@ use sheet::show_sheet;
 use std::env::{Env, FillError};
 use std::io::{BufWriter, Read, Write};
 use std::process::ExitCode;
+use std::rt::Stdout;
 use std::{env, io};
+use stop::Stop;
 use task::{Method, Task, read_task};
 use text::Text;
 use trouble::Trouble;
 
-const COMMA: &[u8; 1] = b",";
-
-// What a label has in place of a comma.
-const GAP: &[u8; 2] = b"; ";
-
 // One byte more than a sheet may have tells that there are too many.
 const READ_AT_MOST: u64 = MAX_BYTES as u64 + 1;
-
-const NO_WORDS: &str = "the words cannot be read";
-
-const NO_INPUT: &str = "the standard input cannot be read";
-
-const NO_OUTPUT: &str = "the standard output cannot be written";
-
-// A result whose failure is told as `what`.
-fn told<T: Drop>(what: &'static str, res: io::Result<T>) -> Result<T, Trouble> {
-    match res {
-        Ok(value) => Ok(value),
-        Err(e) => Err(Trouble::Failed(what, e)),
-    }
-}
 
 // The words, the program's name first; none at all where only the name was given, which need not be text.
 fn read_words(rt: &HostRuntime) -> io::Result<Vec<String>> {
@@ -65,23 +48,10 @@ fn read_sheet(rt: &HostRuntime) -> io::Result<Vec<u8>> {
 }
 
 // Shows the sheet by its characters where it is well-formed text, and else by its bytes.
-fn show<W: Write>(page: &mut Page<W>, bytes: &[u8]) -> io::Result<()> {
-    let checked = Text::check(bytes);
-    match checked {
-        Ok(()) => show_sheet(
-            page,
-            Text::new(bytes),
-            Text::new(COMMA),
-            Text::new(GAP),
-            checked,
-        ),
-        Err(_) => show_sheet(
-            page,
-            Bytes::new(bytes),
-            Bytes::new(COMMA),
-            Bytes::new(GAP),
-            checked,
-        ),
+fn show<W: Write>(page: &mut Page<W>, sheet: Bytes<'_>) -> Result<(), Stop> {
+    match Text::try_from(sheet.as_bytes()) {
+        Ok(text) => show_sheet(page, text, Ok(())),
+        Err(refusal) => show_sheet(page, sheet, Err(refusal)),
     }
 }
 
@@ -89,49 +59,59 @@ fn show<W: Write>(page: &mut Page<W>, bytes: &[u8]) -> io::Result<()> {
 fn show_method<W: Write>(
     page: &mut Page<W>,
     words: &[String],
-    bytes: &[u8],
+    sheet: Bytes<'_>,
     method: Method<'_>,
-) -> io::Result<()> {
+) -> Result<(), Stop> {
     for word in words.iter().skip(1) {
         page.word(word.as_bytes())?;
     }
-    match Text::check(bytes) {
-        Ok(()) => answer(page, Text::new(bytes), " bytes of text", method),
-        Err(_) => answer(page, Bytes::new(bytes), " bytes", method),
+    match Text::try_from(sheet.as_bytes()) {
+        Ok(text) => show_answer(page, text, " bytes of text", method),
+        Err(_) => show_answer(page, sheet, " bytes", method),
     }
 }
 
-fn run_on(rt: &HostRuntime, words: &[String]) -> Result<(), Trouble> {
-    let method = match read_task(words) {
-        Err(misuse) => return Err(Trouble::Misused(misuse)),
-        Ok(Task::Help) => return told(NO_OUTPUT, rt.stdout().write_all(HELP.as_bytes())),
-        Ok(Task::Method(method)) => Some(method),
-        Ok(Task::Sheet) => None,
-    };
-    let sheet = told(NO_INPUT, read_sheet(rt))?;
-    if let Err(refusal) = Bytes::check(sheet.as_slice()) {
-        return Err(Trouble::TooLong(refusal));
-    }
-    told(NO_OUTPUT, write_page(rt, words, sheet.as_slice(), method))
-}
-
-fn write_page(
+// Writes a page, at whose end stands what was refused.
+fn write_page<F: FnOnce(&mut Page<BufWriter<Stdout>>) -> Result<(), Stop>>(
     rt: &HostRuntime,
-    words: &[String],
-    bytes: &[u8],
-    method: Option<Method<'_>>,
-) -> io::Result<()> {
+    view: F,
+) -> io::Result<()>
+    requires { F.IsAlwaysCallable view }
+{
     let mut page = Page::new(BufWriter::new(rt.alloc(), rt.stdout())?, rt.alloc());
-    match method {
-        Some(method) => show_method(&mut page, words, bytes, method)?,
-        None => show(&mut page, bytes)?,
+    match view(&mut page) {
+        Ok(()) => {}
+        Err(Stop::Refused(refusal)) => page.refused(refusal)?,
+        Err(Stop::Failed(e)) => return Err(e),
     }
     page.finish()
 }
 
+// Reads the sheet, and writes what `view` shows of it.
+fn show_input<F: FnOnce(&mut Page<BufWriter<Stdout>>, Bytes<'_>) -> Result<(), Stop>>(
+    rt: &HostRuntime,
+    view: F,
+) -> Result<(), Trouble>
+    requires { F.IsAlwaysCallable view }
+{
+    let bytes = read_sheet(rt).map_err(Trouble::Input)?;
+    let sheet = Bytes::try_from(bytes.as_slice()).map_err(Trouble::TooLong)?;
+    write_page(rt, |page| view(page, sheet)).map_err(Trouble::Output)
+}
+
 fn run(rt: &HostRuntime) -> Result<(), Trouble> {
-    let words = told(NO_WORDS, read_words(rt))?;
-    run_on(rt, words.as_slice())
+    let words = read_words(rt).map_err(Trouble::Words)?;
+    let words = words.as_slice();
+    match read_task(words)? {
+        Task::Help => rt
+            .stdout()
+            .write_all(HELP.as_bytes())
+            .map_err(Trouble::Output),
+        Task::Sheet => show_input(rt, show),
+        Task::Method(method) => {
+            show_input(rt, |page, sheet| show_method(page, words, sheet, method))
+        }
+    }
 }
 
 fn main(rt: HostRuntime) -> ExitCode {

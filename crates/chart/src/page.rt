@@ -1,4 +1,5 @@
 // The layout of a sheet that is shown, line by line.
+use super::row::Row;
 use anystr::anystr::AnyStr;
 use anystr::bytes::Bytes;
 use anystr::place::Place;
@@ -9,24 +10,21 @@ use sheets::escapes::add_text;
 use std::alloc::Global;
 use std::io;
 use std::io::Write;
+use std::num::Saturating;
 use text::Text;
+use trays::label::Label;
 
 // Whether bytes are written to a shell without quotes.
 fn is_plain(word: &[u8]) -> bool {
-    for b in word {
-        if !b.is_ascii_alphanumeric() && *b != b'-' {
-            return false;
-        }
-    }
-    !word.is_empty()
+    !word.is_empty() && word.iter().all(|b| b.is_ascii_alphanumeric() || *b == b'-')
 }
 
 // The counts below a sheet. A text has far fewer rows and fields than a number holds, so no count saturates.
-#[derive(Clone, Copy)]
+#[derive(Clone, Copy, Default)]
 pub struct Tally {
-    pub rows: usize,
-    pub fields: usize,
-    pub empty: usize,
+    pub rows: Saturating<usize>,
+    pub fields: Saturating<usize>,
+    pub empty: Saturating<usize>,
 }
 
 // Where a sheet is shown.
@@ -66,17 +64,13 @@ impl<W: Write> Page<W> {
         }
     }
 
-    pub fn row(&mut self, number: usize, start: usize, end: usize) -> io::Result<()> {
+    pub fn row(&mut self, number: usize, row: Piece) -> io::Result<()> {
+        let Piece { start, end } = row;
         writeln!(self.out, "\nrow {number:>4}  {start:>8}..{end}")
     }
 
-    pub fn field<S: AnyStr>(
-        &mut self,
-        number: usize,
-        start: usize,
-        end: usize,
-        content: &S,
-    ) -> io::Result<()> {
+    pub fn field<S: AnyStr>(&mut self, number: usize, place: Place, content: &S) -> io::Result<()> {
+        let Place { start, end } = place;
         write!(self.out, "    {number:>4}  {start:>8}..{end:<8}  ")?;
         self.quoted(content)?;
         self.out.write_all(b"\n")
@@ -93,16 +87,15 @@ impl<W: Write> Page<W> {
 
     // Bytes as text where they are text, and else byte by byte.
     fn poured(&mut self, bytes: &[u8]) -> io::Result<()> {
-        match Text::check(bytes) {
-            Ok(()) => self.quoted(&Text::new(bytes))?,
+        match Text::try_from(bytes) {
+            Ok(text) => self.quoted(&text)?,
             Err(_) => self.quoted(&Bytes::new(bytes))?,
         }
         self.out.write_all(b"\n")
     }
 
-    fn stretch(&mut self, base: usize, piece: Piece) -> io::Result<()> {
-        let start = base.saturating_add(piece.start);
-        let end = base.saturating_add(piece.end);
+    fn place(&mut self, place: Place) -> io::Result<()> {
+        let Place { start, end } = place;
         writeln!(self.out, "{start}..{end}")
     }
 
@@ -111,21 +104,21 @@ impl<W: Write> Page<W> {
         writeln!(self.out, "refused ({number}) with {value}")
     }
 
-    // What a call on the row's cutter answered; offsets are told from the row's start, `base`, on.
-    pub fn answer(
+    // What a call on a cutter of the row's fields answered, by places in the sheet; a pour went into the label.
+    pub fn answer<S: AnyStr>(
         &mut self,
         call: &str,
         answer: Answer,
-        base: usize,
-        label: &[u8],
+        row: &Row<S>,
+        label: &Label,
     ) -> io::Result<()> {
         write!(self.out, "    {call:<8}")?;
         match answer {
-            Answer::Piece(piece) | Answer::Rest(piece) => self.stretch(base, piece),
-            Answer::NoPiece => self.none(),
-            Answer::Skipped => self.out.write_all(b"ok\n"),
-            Answer::Poured => self.poured(label),
-            Answer::Refused(refusal) => self.refused(refusal),
+            Answer::Next(Some(piece)) | Answer::Rest(piece) => self.place(row.place(piece)),
+            Answer::Next(None) => self.none(),
+            Answer::Skip(Ok(())) => self.out.write_all(b"ok\n"),
+            Answer::Pour(Ok(())) => self.poured(label.as_bytes()),
+            Answer::Skip(Err(refusal)) | Answer::Pour(Err(refusal)) => self.refused(refusal),
         }
     }
 
@@ -135,9 +128,9 @@ impl<W: Write> Page<W> {
 
     pub fn counts(&mut self, tally: &Tally, tabs: usize, blanks: usize) -> io::Result<()> {
         self.out.write_all(b"\n")?;
-        self.count("rows", tally.rows)?;
-        self.count("fields", tally.fields)?;
-        self.count("empty fields", tally.empty)?;
+        self.count("rows", tally.rows.0)?;
+        self.count("fields", tally.fields.0)?;
+        self.count("empty fields", tally.empty.0)?;
         self.count("tabs", tabs)?;
         self.count("blanks", blanks)
     }
@@ -154,11 +147,9 @@ impl<W: Write> Page<W> {
 
     // The places that a method listed, each with its content.
     pub fn places<S: AnyStr>(&mut self, sheet: &S, places: &[Place]) -> io::Result<()> {
-        let mut number: usize = 0;
-        for place in places {
-            number = number.saturating_add(1);
+        for (number, place) in (1..).zip(places) {
             let content = sheet.get_bytes(place.start..place.end);
-            self.field(number, place.start, place.end, &content)?;
+            self.field(number, *place, &content)?;
         }
         Ok(())
     }
@@ -168,8 +159,16 @@ impl<W: Write> Page<W> {
         writeln!(self.out, "{before}{number}{after}")
     }
 
-    pub fn none(&mut self) -> io::Result<()> {
+    fn none(&mut self) -> io::Result<()> {
         self.out.write_all(b"none\n")
+    }
+
+    // Where something was found, if anywhere.
+    pub fn found(&mut self, offset: Option<usize>) -> io::Result<()> {
+        match offset {
+            Some(offset) => self.line("found at ", offset, ""),
+            None => self.none(),
+        }
     }
 
     // Everything is written out.

@@ -1,10 +1,11 @@
 // A sheet, cut into rows and fields. One text for every kind of text.
 use super::calls::{show_calls, show_label};
 use super::page::{Page, Tally};
-use super::task::NO_BOUND;
-use anystr::anystr::AnyStr;
+use super::row::Row;
+use super::stop::Stop;
 use anystr::refusal::Refusal;
 use bytesets::asciiset::AsciiSet;
+use cutters::bound::UNBOUNDED;
 use cutters::cutter::Cutter;
 use lineends::LineEnds;
 use searchers::ascii::AsciiStr;
@@ -13,34 +14,29 @@ use std::io;
 use std::io::Write;
 use substring::Substring;
 
-// Shows the fields of a row that begins at the sheet's offset `base`.
+const COMMA: &[u8] = b",";
+
+// What a label has in place of a comma.
+const GAP: &[u8] = b"; ";
+
+// Shows the fields of a row, and counts them.
 fn show_fields<W: Write, S: AsciiStr>(
     page: &mut Page<W>,
-    row: S,
-    comma: Substring<S>,
-    base: usize,
+    row: &Row<S>,
     tally: &mut Tally,
 ) -> io::Result<()> {
-    let mut number: usize = 0;
-    let mut fields = Cutter::open(row, comma, NO_BOUND);
-    while let Some(field) = fields.next() {
-        number = number.saturating_add(1);
-        if field.start == field.end {
-            tally.empty = tally.empty.saturating_add(1);
+    for (number, field) in (1..).zip(row.fields().pieces()) {
+        let content = row.text.get_bytes(field.start..field.end);
+        page.field(number, row.place(field), &content)?;
+        tally.fields += 1;
+        if content.is_empty() {
+            tally.empty += 1;
         }
-        let content = row.get_bytes(field.start..field.end);
-        page.field(
-            number,
-            base.saturating_add(field.start),
-            base.saturating_add(field.end),
-            &content,
-        )?;
     }
-    tally.fields = tally.fields.saturating_add(number);
     Ok(())
 }
 
-// Shows the rows; an empty one behind the last line end is none.
+// Shows the rows, of which `comma` separates the fields; an empty one behind the last line end is none.
 fn show_rows<W: Write, S: AsciiStr>(
     page: &mut Page<W>,
     sheet: S,
@@ -48,38 +44,35 @@ fn show_rows<W: Write, S: AsciiStr>(
     gap: S,
 ) -> io::Result<Tally> {
     let len = sheet.bytes_len();
-    let mut tally = Tally {
-        rows: 0,
-        fields: 0,
-        empty: 0,
-    };
-    let mut rows = Cutter::open(sheet, LineEnds, NO_BOUND);
-    while let Some(row) = rows.next() {
-        if row.start == len {
-            break;
-        }
-        tally.rows = tally.rows.saturating_add(1);
-        page.row(tally.rows, row.start, row.end)?;
-        let text = sheet.get_bytes(row.start..row.end);
-        show_fields(page, text, comma, row.start, &mut tally)?;
-        show_calls(page, text, comma, gap, row.start)?;
-        show_label(page, text, comma, gap, row.start)?;
+    let rows = Cutter::open(sheet, LineEnds, UNBOUNDED).pieces();
+    let mut tally = Tally::default();
+    for (number, piece) in (1..).zip(rows.take_while(|row| row.start < len)) {
+        let row = Row {
+            text: sheet.get_bytes(piece.start..piece.end),
+            start: piece.start,
+            comma,
+            gap,
+        };
+        page.row(number, piece)?;
+        show_fields(page, &row, &mut tally)?;
+        show_calls(page, &row)?;
+        show_label(page, &row)?;
+        tally.rows += 1;
     }
     Ok(tally)
 }
 
-// Shows a sheet whose fields are separated by `comma`, with what its check said; a label has `gap` in its place.
-pub fn show_sheet<W: Write, S: AsciiStr>(
+// Shows a sheet, with what its check for well-formed text said.
+pub fn show_sheet<'a, W: Write, S: AsciiStr + TryFrom<&'a [u8], Error = Refusal>>(
     page: &mut Page<W>,
     sheet: S,
-    comma: S,
-    gap: S,
     checked: Result<(), Refusal>,
-) -> io::Result<()> {
+) -> Result<(), Stop> {
+    let comma = S::try_from(COMMA)?;
+    let gap = S::try_from(GAP)?;
     page.head(&sheet, checked)?;
     let tally = show_rows(page, sheet, Substring::new(comma), gap)?;
     let tabs = count_in(&sheet, &AsciiSet::new(b"\t"));
     let blanks = count_in(&sheet, &AsciiSet::new(b" "));
-    page.counts(&tally, tabs, blanks)?;
-    page.finish()
+    Ok(page.counts(&tally, tabs, blanks)?)
 }

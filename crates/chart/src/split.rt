@@ -1,7 +1,8 @@
 // The places that a method lists: those of split, rsplit and splitlines.
+use super::fill::filled;
 use super::page::Page;
-use super::stop::{Stop, needed};
-use super::task::End;
+use super::stop::Stop;
+use anystr::anystr::AnyStr;
 use anystr::place::Place;
 use anystr::refusal::Refusal;
 use bytesinner::splitargs::SplitArgs;
@@ -11,32 +12,14 @@ use searchers::ascii::AsciiStr;
 use std::alloc::Global;
 use std::io::Write;
 
-// An entry of a list before a place is written there.
-const UNWRITTEN: Place = Place { start: 0, end: 0 };
-
-fn split_at<S: AsciiStr>(
-    end: End,
-    sheet: &S,
-    args: SplitArgs<S>,
-    places: &mut [Place],
-) -> Result<usize, Refusal> {
-    match end {
-        End::Front => split(sheet, args, places),
-        End::Back => rsplit(sheet, args, places),
-    }
-}
-
-// The places of split, or of rsplit.
-fn parts<S: AsciiStr>(
+// The places that `list` writes.
+fn listed<F: Fn(&mut [Place]) -> Result<usize, Refusal>>(
     heap: Global,
-    end: End,
-    sheet: &S,
-    args: SplitArgs<S>,
-) -> Result<Vec<Place>, Stop> {
-    let n = needed(split_at(end, sheet, args, &mut []))?;
-    let mut places = vec![in heap; UNWRITTEN; n]?;
-    split_at(end, sheet, args, places.as_mut_slice())?;
-    Ok(places)
+    list: F,
+) -> Result<Vec<Place>, Stop>
+    requires { F.IsAlwaysCallable list }
+{
+    filled(heap, list)
 }
 
 // The places of splitlines.
@@ -45,29 +28,49 @@ pub fn lines_of<S: AsciiStr>(
     sheet: &S,
     args: SplitLinesArgs,
 ) -> Result<Vec<Place>, Stop> {
-    let n = needed(splitlines(sheet, args, &mut []))?;
-    let mut places = vec![in heap; UNWRITTEN; n]?;
-    splitlines(sheet, args, places.as_mut_slice())?;
-    Ok(places)
+    listed(heap, |places| splitlines(sheet, args, places))
 }
 
-pub fn show_split<W: Write, S: AsciiStr>(
+// Shows each place that `list` writes with its content, and below them their number, after `name`.
+fn show_listed<W: Write, S: AnyStr, F: Fn(&mut [Place]) -> Result<usize, Refusal>>(
     page: &mut Page<W>,
-    end: End,
-    sheet: S,
+    sheet: &S,
+    name: &str,
+    list: F,
+) -> Result<(), Stop>
+    requires { F.IsAlwaysCallable list }
+{
+    let places = listed(page.heap, list)?;
+    page.places(sheet, places.as_slice())?;
+    Ok(page.line(name, places.len(), "")?)
+}
+
+// Two functions, each with its call: no proof covers a closure round a call that is a generic parameter and takes a text of the sheet's kind.
+pub fn show_split<W: Write, S: AnyStr>(
+    page: &mut Page<W>,
+    sheet: &S,
     args: SplitArgs<S>,
 ) -> Result<(), Stop> {
-    let places = parts(page.heap, end, &sheet, args)?;
-    page.places(&sheet, places.as_slice())?;
-    Ok(page.line("places ", places.len(), "")?)
+    show_listed(page, sheet, "places ", |places| split(sheet, args, places))
+}
+
+pub fn show_rsplit<W: Write, S: AnyStr>(
+    page: &mut Page<W>,
+    sheet: &S,
+    args: SplitArgs<S>,
+) -> Result<(), Stop> {
+    show_listed(page, sheet, "places ", |places| rsplit(sheet, args, places))
 }
 
 pub fn show_lines<W: Write, S: AsciiStr>(
     page: &mut Page<W>,
-    sheet: S,
+    sheet: &S,
     args: SplitLinesArgs,
 ) -> Result<(), Stop> {
-    let places = lines_of(page.heap, &sheet, args)?;
-    page.places(&sheet, places.as_slice())?;
-    Ok(page.line("lines ", places.len(), "")?)
+    show_listed(
+        page,
+        sheet,
+        "lines ",
+        |places| splitlines(sheet, args, places),
+    )
 }

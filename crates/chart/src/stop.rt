@@ -1,4 +1,4 @@
-// What ends the showing of a method's answer early.
+// What ends the showing of a sheet early.
 use anystr::refusal::Refusal;
 use std::alloc::AllocError;
 use std::io;
@@ -24,14 +24,5 @@ impl From<AllocError> for Stop {
 impl From<io::Error> for Stop {
     fn from(error: io::Error) -> Stop {
         Stop::Failed(error)
-    }
-}
-
-// How many entries or bytes a method needs, by its answer to a list or a tray that has none.
-pub fn needed<T: Drop>(answer: Result<T, Refusal>) -> Result<usize, Refusal> {
-    match answer {
-        Ok(_) => Ok(0),
-        Err(Refusal::TooSmall { needed }) => Ok(needed as usize),
-        Err(refusal) => Err(refusal),
     }
 }

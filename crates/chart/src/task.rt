@@ -1,8 +1,8 @@
 // What the words ask for, of which the first is the program's name.
+use bytesinner::splitargs::SplitArgs;
+use cutters::bound::UNBOUNDED;
 use lines::SplitLinesArgs;
-
-// This bound is none: a text is cut at every mark.
-pub const NO_BOUND: i64 = -1;
+use std::fmt;
 
 // What is wrong with the words.
 #[derive(Clone, Copy)]
@@ -13,36 +13,36 @@ pub enum Misuse {
     NoNumber,
 }
 
-impl Misuse {
-    pub fn text(self) -> &'static str {
+impl fmt::Display for Misuse {
+    fn fmt<W: fmt::Write>(&self, f: &mut fmt::Formatter<W>) -> fmt::Result {
         match self {
-            Misuse::Unknown => "unknown word",
-            Misuse::Missing => "a word is missing",
-            Misuse::TooMany => "too many words",
-            Misuse::NoNumber => "MAXSPLIT and MAXCOUNT are whole numbers",
+            Misuse::Unknown => f.write_str("unknown word"),
+            Misuse::Missing => f.write_str("a word is missing"),
+            Misuse::TooMany => f.write_str("too many words"),
+            Misuse::NoNumber => f.write_str("MAXSPLIT and MAXCOUNT are whole numbers"),
         }
     }
-}
-
-// The end of the sheet that a method begins at.
-#[derive(Clone, Copy)]
-pub enum End {
-    Front,
-    Back,
 }
 
 // A method, with its arguments.
 #[derive(Clone, Copy)]
 pub enum Method<'a> {
-    // the separator, or none for whitespace, and the most cuts
-    Split(End, Option<&'a [u8]>, i64),
+    Split(SplitArgs<&'a [u8]>),
+    Rsplit(SplitArgs<&'a [u8]>),
     Lines(SplitLinesArgs),
-    Find(End, &'a [u8]),
+    Find(&'a [u8]),
+    Rfind(&'a [u8]),
     Count(&'a [u8]),
-    // what is replaced by what, and how often
-    Replace(&'a [u8], &'a [u8], i64),
-    // the bytes that are mapped, those that they are mapped to, and those to delete
-    Translate(&'a [u8], &'a [u8], &'a [u8]),
+    Replace {
+        from: &'a [u8],
+        to: &'a [u8],
+        maxcount: Option<i64>,
+    },
+    Translate {
+        from: &'a [u8],
+        to: &'a [u8],
+        delete: &'a [u8],
+    },
     Join(&'a [u8]),
 }
 
@@ -55,28 +55,20 @@ pub enum Task<'a> {
 }
 
 fn word<'a>(words: &'a [String], index: usize) -> Option<&'a [u8]> {
-    match words.get(index) {
-        Some(word) => Some(word.as_bytes()),
-        None => None,
-    }
+    words.get(index).map(|word| word.as_bytes())
 }
 
 fn need<'a>(words: &'a [String], index: usize) -> Result<&'a [u8], Misuse> {
-    match words.get(index) {
-        Some(word) => Ok(word.as_bytes()),
-        None => Err(Misuse::Missing),
-    }
+    word(words, index).ok_or(Misuse::Missing)
 }
 
-// The bound that a word names; none where there is no such word.
-fn bound(words: &[String], index: usize) -> Result<i64, Misuse> {
+// The bound that a word names, if there is one.
+fn bound(words: &[String], index: usize) -> Result<Option<i64>, Misuse> {
     let Some(word) = words.get(index) else {
-        return Ok(NO_BOUND);
+        return Ok(None);
     };
-    match word.as_str().parse::<i64>() {
-        Ok(n) => Ok(n),
-        Err(_) => Err(Misuse::NoNumber),
-    }
+    let bound = word.as_str().parse::<i64>().map_err(|_| Misuse::NoNumber)?;
+    Ok(Some(bound))
 }
 
 fn at_most(words: &[String], n: usize) -> Result<(), Misuse> {
@@ -87,18 +79,18 @@ fn at_most(words: &[String], n: usize) -> Result<(), Misuse> {
     }
 }
 
-fn read_split<'a>(end: End, words: &'a [String]) -> Result<Method<'a>, Misuse> {
+fn read_split<'a>(words: &'a [String]) -> Result<SplitArgs<&'a [u8]>, Misuse> {
     at_most(words, 4)?;
-    let maxsplit = bound(words, 3)?;
+    let maxsplit = bound(words, 3)?.unwrap_or(UNBOUNDED);
     let sep = word(words, 2);
-    Ok(Method::Split(end, sep, maxsplit))
+    Ok(SplitArgs { sep, maxsplit })
 }
 
-fn read_lines<'a>(words: &'a [String]) -> Result<Method<'a>, Misuse> {
+fn read_lines(words: &[String]) -> Result<SplitLinesArgs, Misuse> {
     at_most(words, 3)?;
     match word(words, 2) {
-        None => Ok(Method::Lines(SplitLinesArgs { keepends: false })),
-        Some(b"keep") => Ok(Method::Lines(SplitLinesArgs { keepends: true })),
+        None => Ok(SplitLinesArgs { keepends: false }),
+        Some(b"keep") => Ok(SplitLinesArgs { keepends: true }),
         Some(_) => Err(Misuse::Unknown),
     }
 }
@@ -111,27 +103,29 @@ fn only<'a>(words: &'a [String]) -> Result<&'a [u8], Misuse> {
 
 fn read_replace<'a>(words: &'a [String]) -> Result<Method<'a>, Misuse> {
     at_most(words, 5)?;
-    let from = need(words, 2)?;
-    let to = need(words, 3)?;
-    let maxcount = bound(words, 4)?;
-    Ok(Method::Replace(from, to, maxcount))
+    Ok(Method::Replace {
+        from: need(words, 2)?,
+        to: need(words, 3)?,
+        maxcount: bound(words, 4)?,
+    })
 }
 
 fn read_translate<'a>(words: &'a [String]) -> Result<Method<'a>, Misuse> {
     at_most(words, 5)?;
-    let from = need(words, 2)?;
-    let to = need(words, 3)?;
-    let delete = word(words, 4).unwrap_or(b"");
-    Ok(Method::Translate(from, to, delete))
+    Ok(Method::Translate {
+        from: need(words, 2)?,
+        to: need(words, 3)?,
+        delete: word(words, 4).unwrap_or(b""),
+    })
 }
 
 fn read_method<'a>(name: &[u8], words: &'a [String]) -> Result<Method<'a>, Misuse> {
     match name {
-        b"split" => read_split(End::Front, words),
-        b"rsplit" => read_split(End::Back, words),
-        b"lines" => read_lines(words),
-        b"find" => Ok(Method::Find(End::Front, only(words)?)),
-        b"rfind" => Ok(Method::Find(End::Back, only(words)?)),
+        b"split" => Ok(Method::Split(read_split(words)?)),
+        b"rsplit" => Ok(Method::Rsplit(read_split(words)?)),
+        b"lines" => Ok(Method::Lines(read_lines(words)?)),
+        b"find" => Ok(Method::Find(only(words)?)),
+        b"rfind" => Ok(Method::Rfind(only(words)?)),
         b"count" => Ok(Method::Count(only(words)?)),
         b"replace" => read_replace(words),
         b"translate" => read_translate(words),

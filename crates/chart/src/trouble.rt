@@ -7,19 +7,28 @@ use std::{fmt, io};
 #[derive(Drop)]
 pub enum Trouble {
     Misused(Misuse),
-    // what failed
-    Failed(&'static str, io::Error),
+    // the words cannot be read
+    Words(io::Error),
+    // the standard input cannot be read
+    Input(io::Error),
+    // the standard output cannot be written
+    Output(io::Error),
     TooLong(Refusal),
+}
+
+impl From<Misuse> for Trouble {
+    fn from(misuse: Misuse) -> Trouble {
+        Trouble::Misused(misuse)
+    }
 }
 
 impl fmt::Display for Trouble {
     fn fmt<W: fmt::Write>(&self, f: &mut fmt::Formatter<W>) -> fmt::Result {
         match self {
-            Trouble::Misused(misuse) => {
-                let what = misuse.text();
-                write!(f, "{what}; see 'chart help'")
-            }
-            Trouble::Failed(what, e) => write!(f, "{what}: {e}"),
+            Trouble::Misused(misuse) => write!(f, "{misuse}; see 'chart help'"),
+            Trouble::Words(e) => write!(f, "the words cannot be read: {e}"),
+            Trouble::Input(e) => write!(f, "the standard input cannot be read: {e}"),
+            Trouble::Output(e) => write!(f, "the standard output cannot be written: {e}"),
             Trouble::TooLong(refusal) => {
                 let (number, _) = refusal.code();
                 write!(

@@ -1,5 +1,5 @@
 -- What a cutter from the end gives next, by what a searcher answers from the end.
-use Rattle.std.proofs.Common.{◌≡◌, ℕ, suc, ◌-◌, ◌≤◌, min, Bool, true, false, List, [], ◌∷◌, map, length, ap, ◌∙◌, arith}
+use Rattle.std.proofs.Common.{◌≡◌, ℕ, suc, ◌-◌, ◌≤◌, min, Bool, false, List, [], ◌∷◌, map, length, ap, ◌∙◌, arith}
 use lib.ListN.{length-map}
 use Rattle.anystr.specs.Limits.{most_bytes}
 use Rattle.searchers.specs.Marks.{Span, Lawful, Greatest, NoneBefore}
@@ -46,6 +46,3 @@ module _ (sheet : Sheet) (law : Lawful sheet.marks (size sheet)) where
     back_cut a e few g =
         let least = rw from at (mirror-least sheet.marks (size sheet) law end a e (omega arith) g) in
         flipped e _ (law.within a e g.is) (ap (between (size sheet - place) (size sheet)) (cut-found (from_end sheet) end-law made (size sheet - place) (size sheet - e) (size sheet - a) few least))
-
-pub back_spent : (sheet : Sheet) (place made : ℕ) (spent : Bool) → spent ≡ true → left_back sheet (at place made spent) ≡ []
-back_spent sheet place made spent e = ap (λ (b : Bool). left_back sheet (at place made b)) e

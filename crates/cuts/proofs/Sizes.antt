@@ -1,5 +1,5 @@
 -- How many pieces there can be, and how many bytes a pour can take.
-use Rattle.std.proofs.Common.{◌≡◌, ℕ, suc, ◌+◌, ◌-◌, ◌*◌, ◌^◌, ◌<◌, ◌≤◌, Bool, true, false, cond, List, [], ◌∷◌, ◌++◌, length, take, drop, refl, ap, ◌∙◌, ⊎_elim, suc-mul, mul-le-mul, zero-mul, arith, length-append, length-drop, length-take}
+use Rattle.std.proofs.Common.{◌≡◌, ℕ, suc, ◌+◌, ◌-◌, ◌*◌, ◌^◌, ◌<◌, ◌≤◌, Bool, true, false, cond, List, [], ◌∷◌, ◌++◌, length, take, drop, refl, ap, ⊎_elim, suc-mul, mul-le-mul, zero-mul, arith, length-append, length-drop, length-take}
 use Rattle.std.proofs.lemmas.Bool.{cases_lt}
 use Rattle.anystr.specs.Limits.{most_bytes}
 use Rattle.searchers.specs.Marks.{Span, Lawful}
@@ -54,13 +54,3 @@ module _ (sheet : Sheet) (law : Lawful sheet.marks (size sheet)) where
       let times : length ms * length to ≤ most_bytes * most_bytes = mul-le-mul {n₂ = most_bytes} {m₂ = most_bytes} some short in
       omega (arith, poured-within to ms made place within refl))
       (cases_lt (size sheet) place)
-
-  -- the bytes of a pour up to the first cut, and those after it
-  pub poured-cut : (to : List ℕ) (made place a e : ℕ) → cut_from sheet made place ≡ (a, e) ∷ cut_from sheet (suc made) e
-      → length (poured sheet.bytes to place (cut_from sheet made place)) ≡ (a - place) + length to + length (poured sheet.bytes to e (cut_from sheet (suc made) e))
-  poured-cut to made place a e cut =
-      let f = first sheet law made place (a, e) (cut_from sheet (suc made) e) cut in
-      let front = take (a - place) (drop place sheet.bytes) in
-      let more = poured sheet.bytes to e (cut_from sheet (suc made) e) in
-      ap (λ (ms : List Span). length (poured sheet.bytes to place ms)) cut
-      ∙ omega (arith, length-append front (to ++ more), length-append to more, length-take (a - place) (drop place sheet.bytes), length-drop place sheet.bytes, f.from, f.long, f.within)

@@ -1,7 +1,7 @@
 pub mod Ends
 pub mod Steps
 pub mod Same
+pub mod Yielding
 pub mod Turns
-pub mod Stretches
 pub mod Pouring
 pub mod Telling

@@ -1,10 +1,6 @@
 -- A tray while bytes are poured into it.
-use Rattle.std.proofs.Common.{◌≡◌, ℕ, ◌+◌, ◌-◌, ◌≤◌, Bool, true, false, cond, List, [], ◌++◌, length, take, drop, Some, sym, ap, ◌∙◌, subst, append_assoc, arith, length-append, length-drop}
+use Rattle.std.proofs.Common.{◌≡◌, ℕ, ◌+◌, ◌≤◌, List, ◌++◌, length, drop, ap, ◌∙◌, append_assoc, arith, length-append, length-drop}
 use Rattle.std.proofs.lemmas.List.{drop-drop}
-use Rattle.searchers.specs.Marks.{Span, Lawful}
-use Rattle.cuts.specs.Cuts.{Sheet, size, State}
-use Rattle.cuts.specs.Runs.{Step, next}
-use Rattle.cuts.proofs.Left.{to_pour, gave}
 
 -- what is held, with `rest` still to come, will be `all`; of the bytes that were spare at first those past the poured ones are left
 pub record Pouring (held spare rest all spare₀ : List ℕ) (total : ℕ) : Type 0 where
@@ -29,30 +25,20 @@ pushed held spare bytes rest all spare₀ held' spare' total p eh es =
       count = omega arith;
     }
 
--- one turn of the pass that pours: a piece's bytes, and then `to` unless the piece is the last
-module _ (on : Sheet) (law : Lawful on.marks (size on)) (to : List ℕ) (s t : State) (p : Span) (st : Step on s (next (Some p)) t)
-    (held spare all spare₀ : List ℕ) (total : ℕ) (so_far : Pouring held spare (to_pour on to s) all spare₀ total)
-    (bytes : List ℕ) (is : bytes ≡ take (p.1 - p.0) (drop p.0 on.bytes)) where
-  split : Pouring held spare (bytes ++ (cond t.spent [] to ++ to_pour on to t)) all spare₀ total
-  split =
-      let g = gave on law s.place s.made s.spent p t st in
-      subst (λ (r : List ℕ). Pouring held spare r all spare₀ total) (g.pour to ∙ ap (λ (b : List ℕ). b ++ (cond t.spent [] to ++ to_pour on to t)) (sym is)) so_far
+-- one turn of the pass that pours: a piece's bytes, and then those that come after it
+module _ (held spare rest piece gap rest' all spare₀ : List ℕ) (total : ℕ) (so_far : Pouring held spare rest all spare₀ total) (parts : rest ≡ piece ++ (gap ++ rest')) where
+  split : Pouring held spare (piece ++ (gap ++ rest')) all spare₀ total
+  split = rw parts at so_far
 
-  pub piece-fits : length bytes ≤ length spare
-  piece-fits = omega (arith, split.room, length-append bytes (cond t.spent [] to ++ to_pour on to t))
+  pub piece-fits : length piece ≤ length spare
+  piece-fits = omega (arith, split.room, length-append piece (gap ++ rest'))
 
-  module _ (held' spare' : List ℕ) (eh : held' ≡ held ++ bytes) (es : spare' ≡ drop (length bytes) spare) where
-    part : Pouring held' spare' (cond t.spent [] to ++ to_pour on to t) all spare₀ total
-    part = pushed held spare bytes _ all spare₀ held' spare' total split eh es
+  module _ (held' spare' : List ℕ) (eh : held' ≡ held ++ piece) (es : spare' ≡ drop (length piece) spare) where
+    between : Pouring held' spare' (gap ++ rest') all spare₀ total
+    between = pushed held spare piece (gap ++ rest') all spare₀ held' spare' total split eh es
 
-    pub last-poured : t.spent ≡ true → Pouring held' spare' (to_pour on to t) all spare₀ total
-    last-poured e = subst (λ (b : Bool). Pouring held' spare' (cond b [] to ++ to_pour on to t) all spare₀ total) e part
+    pub gap_fits : length gap ≤ length spare'
+    gap_fits = omega (arith, between.room, length-append gap rest')
 
-    between : t.spent ≡ false → Pouring held' spare' (to ++ to_pour on to t) all spare₀ total
-    between e = subst (λ (b : Bool). Pouring held' spare' (cond b [] to ++ to_pour on to t) all spare₀ total) e part
-
-    pub gap_fits : t.spent ≡ false → length to ≤ length spare'
-    gap_fits e = omega (arith, (between e).room, length-append to (to_pour on to t))
-
-    pub gap_poured : t.spent ≡ false → (held'' spare'' : List ℕ) → held'' ≡ held' ++ to → spare'' ≡ drop (length to) spare' → Pouring held'' spare'' (to_pour on to t) all spare₀ total
-    gap_poured e held'' spare'' fh fs = pushed held' spare' to _ all spare₀ held'' spare'' total (between e) fh fs
+    pub gap_poured : (held'' spare'' : List ℕ) → held'' ≡ held' ++ gap → spare'' ≡ drop (length gap) spare' → Pouring held'' spare'' rest' all spare₀ total
+    gap_poured held'' spare'' fh fs = pushed held' spare' gap rest' all spare₀ held'' spare'' total between fh fs

@@ -1,14 +1,13 @@
 -- What next does, as the law's steps have it.
-use Rattle.std.proofs.Common.{◌≡◌, ℕ, suc, ◌+◌, Bool, true, false, List, [], length, Some, None, Option, sym, ap, ◌∙◌, subst, add-one}
+use Rattle.std.proofs.Common.{◌≡◌, ℕ, suc, ◌+◌, Bool, true, false, List, [], length, Some, sym, ap, ◌∙◌, subst, add-one}
 use Rattle.std.specs.List.{concat}
 use Rattle.anystr.specs.Elements.{Boundary}
-use Rattle.searchers.specs.Marks.{Span, Lawful, Least, Finds}
-use Rattle.searchers.specs.declared.mark.Mark.{Mark}
+use Rattle.searchers.specs.Marks.{Span, Lawful, Least}
 use Rattle.cuts.specs.Cuts.{Sheet, size, cut_from, State, at, next_of}
 use Rattle.cuts.specs.Runs.{Step, next}
-use Rattle.cuts.proofs.Found.{next-cut, next-rest, none_found, cut-found}
+use Rattle.cuts.proofs.Found.{next-cut, next-rest}
 use Rattle.cuts.proofs.Greedy.{Few}
-use Rattle.cutters.specs.Calls.{CutsNext, PieceOn, span}
+use Rattle.cutters.specs.Calls.{PieceOn, span}
 use Rattle.cutters.specs.declared.piece.Piece.{Piece}
 use Rattle.cutters.proofs.Ends.{end_on}
 
@@ -29,8 +28,3 @@ pub rest-on : (es : List (List ℕ)) (place place' : ℕ) (r : Piece) → span r
 rest-on es place place' r er ep b =
     let last = end_on es in
     ((subst (Boundary es) (λ i. (sym er i).0) b, subst (Boundary es) (λ i. (sym er i).1) last), subst (Boundary es) (sym ep) last)
-
--- what is cut next, by what the searcher answers
-pub cuts-next : (on : Sheet) → Lawful on.marks (size on) → (made place : ℕ) → Few on.bound made → (r : Option Mark) → Finds on.marks place r → CutsNext on made place r
-cuts-next on law made place few None h = none_found on law made place h
-cuts-next on law made place few (Some m) h = cut-found on law made place m.start m.end few h

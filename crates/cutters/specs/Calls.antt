@@ -1,5 +1,5 @@
 -- What each call on a cutter promises: the step of its event. Assumes nothing.
-use Rattle.std.specs.Prelude.{◌≡◌, ℕ, suc, List, [], ◌∷◌, length, drop, Some, None, Ok, Err, Option, Result}
+use Rattle.std.specs.Prelude.{◌≡◌, ℕ, List, length, drop, Some, None, Ok, Err, Option, Result}
 use Rattle.std.specs.Option.{option_map}
 use Rattle.std.specs.List.{concat}
 use Rattle.anystr.specs.Elements.{Boundary}
@@ -7,12 +7,16 @@ use Rattle.anystr.specs.Refusals.{code}
 use Rattle.anystr.specs.declared.anystr.AnyStr
 use Rattle.anystr.specs.declared.refusal.Refusal.{Refusal}
 use Rattle.searchers.specs.Marks.{Marks, Span}
-use Rattle.searchers.specs.declared.mark.Mark.{Mark}
 use Rattle.searchers.specs.declared.searcher.Searcher
-use Rattle.cuts.specs.Cuts.{Sheet, cut_from, State, at}
+use Rattle.cuts.specs.Cuts.{Sheet, State, at, pieces_left}
 use Rattle.cuts.specs.Runs.{Step, next, skip, rest, pours, pour_refused, needed}
 use Rattle.cutters.specs.declared.cutter.Cutter.{Cutter}
 use Rattle.cutters.specs.declared.piece.Piece.{Piece}
+use Rattle.cutters.specs.declared.progress.Progress.{Progress}
+
+-- the state at a cutter's progress
+abbrev pub state_at : Progress → State
+state_at p = at p.place p.made p.spent
 
 module _ {S F C : Type 0} {s : AnyStr.Ghosts S C} {f : Searcher.Ghosts F S C} where
   -- what a cutter was opened on, by the meanings of its searcher and of its text
@@ -20,11 +24,15 @@ module _ {S F C : Type 0} {s : AnyStr.Ghosts S C} {f : Searcher.Ghosts F S C} wh
   sheet marks elements c = record { marks = marks c.searcher (elements c.text); bytes = concat (elements c.text); bound = c.bound }
 
   abbrev pub state : Cutter S F C s f → State
-  state c = at c.place c.made c.spent
+  state c = state_at c.progress
+
+  -- the pieces that a cutter has left, in the order in which they come
+  abbrev pub left : (F → List (List ℕ) → Marks) → (S → List (List ℕ)) → Cutter S F C s f → List Span
+  left marks elements c = pieces_left (sheet marks elements c) (state c)
 
   -- a cutter's place is a boundary
   abbrev pub Placed : (S → List (List ℕ)) → Cutter S F C s f → Type 0
-  Placed elements c = Boundary (elements c.text) c.place
+  Placed elements c = Boundary (elements c.text) c.progress.place
 
   -- text, searcher and bound are as they were
   pub record SameSheet (c d : Cutter S F C s f) : Type 0 where
@@ -39,11 +47,6 @@ span p = (p.start, p.end)
 abbrev pub PieceOn : List (List ℕ) → Option Piece → Type 0
 PieceOn es None = Unit {0}
 PieceOn es (Some p) = Boundary es p.start × Boundary es p.end
-
--- the mark that is cut next from `place` on, after `made` cuts, if one is
-abbrev pub CutsNext : Sheet → ℕ → ℕ → Option Mark → Type 0
-CutsNext on made place None = cut_from on made place ≡ []
-CutsNext on made place (Some m) = cut_from on made place ≡ (m.start, m.end) ∷ cut_from on (suc made) m.end
 
 -- the refusal of a pour: spent, or the bytes that are needed
 abbrev pub pour_code : Option ℕ → ℕ × ℕ

@@ -1,11 +1,14 @@
 // The cutter: a text with its place, and a searcher.
-ghost use Rattle.std.specs.Prelude.{◌≡◌, ◌≤◌, false};
+ghost use Rattle.std.specs.Prelude.{◌≡◌, ◌≤◌, false, ⊤};
 ghost use Rattle.anystr.specs.Limits.{most_bytes};
 
+use crate::progress::Progress;
 use anystr::anystr::AnyStr;
 use searchers::searcher::Searcher;
+use std::alloc::AllocError;
 
 mod calls;
+pub mod iter;
 
 // A text that is cut at the marks of a searcher, in their order, while fewer cuts are made than the bound.
 // The rest is the text from the place on; a spent cutter has given its last piece.
@@ -14,9 +17,20 @@ pub struct Cutter<S: AnyStr, F: Searcher<S>> {
     text: S,
     searcher: F,
     bound: i64,
-    place: usize,
-    made: u64,
-    spent: bool,
-    ghost few: { made ≤ most_bytes },
-    ghost behind: { (spent ≡ false → made ≤ place) },
+    progress: Progress,
+    ghost few: { progress.made ≤ most_bytes },
+    ghost behind: { (progress.spent ≡ false → progress.made ≤ progress.place) },
 }
+
+// Not derived: Rattle derives no clone of a struct with a ghost field whose parameters may be no copies.
+impl<S: AnyStr, F: Searcher<S> + Copy> Clone for Cutter<S, F> {
+    ghost is_clone = { λ c d. d ≡ c };
+
+    ghost is_infallible = { λ _. ⊤ };
+
+    fn clone(&self) -> Result<Cutter<S, F>, AllocError> {
+        Ok(*self)
+    }
+}
+
+impl<S: AnyStr, F: Searcher<S> + Copy> Copy for Cutter<S, F> {}

@@ -5,3 +5,4 @@ pub mod bound;
 pub mod cutter;
 pub mod piece;
 pub mod play;
+pub mod progress;

@@ -1,5 +1,5 @@
 // A list of calls, made in turn on one cutter.
-ghost use Rattle.std.specs.Prelude.{length};
+ghost use Rattle.trays.specs.Trays.{OnTray};
 ghost use Rattle.cutters.specs.Calls.{sheet, state, SameSheet};
 ghost use Rattle.cutters.specs.Plays.{Answered, PlaysOut, opened_on};
 
@@ -20,42 +20,25 @@ pub enum Call<S: AnyStr> {
 }
 
 // What a call answered.
-#[derive(Clone, Copy)]
+#[derive(Clone, Copy, PartialEq, Eq, Debug)]
 pub enum Answer {
-    // the piece that next gave
-    Piece(Piece),
-    // next gave none
-    NoPiece,
-    // skip was accepted
-    Skipped,
-    // the rest
+    Next(Option<Piece>),
+    Skip(Result<(), Refusal>),
     Rest(Piece),
-    // pour was accepted
-    Poured,
-    // skip or pour was refused
-    Refused(Refusal),
+    Pour(Result<(), Refusal>),
 }
 
 impl<S: AnyStr, F: Searcher<S>> Cutter<S, F> {
     // Makes one call, with the tray for a pour.
     pub fn answer<T: AnyStrContainer>(&mut self, call: Call<S>, tray: &mut T) -> Answer
-        ensures step { Answered S.AnyStr.elements (sheet F.Searcher.marks S.AnyStr.elements self.old) (state self.old) call result (T.AnyStrContainer.held tray.old) (length (T.AnyStrContainer.spare tray.old)) (T.AnyStrContainer.held tray.new) (length (T.AnyStrContainer.spare tray.new)) (state self.new) }
+        ensures step { Answered S.AnyStr.elements T.AnyStrContainer.held T.AnyStrContainer.spare (sheet F.Searcher.marks S.AnyStr.elements self.old) (state self.old) call tray.old result (state self.new) tray.new }
         ensures same { SameSheet self.old self.new }
     {
         match call {
-            Call::Next => match self.next() {
-                Some(piece) => Answer::Piece(piece),
-                None => Answer::NoPiece,
-            },
-            Call::Skip(n) => match self.skip(n) {
-                Ok(()) => Answer::Skipped,
-                Err(refusal) => Answer::Refused(refusal),
-            },
+            Call::Next => Answer::Next(self.next()),
+            Call::Skip(n) => Answer::Skip(self.skip(n)),
             Call::Rest => Answer::Rest(self.rest()),
-            Call::Pour(to) => match self.pour(&to, tray) {
-                Ok(()) => Answer::Poured,
-                Err(refusal) => Answer::Refused(refusal),
-            },
+            Call::Pour(to) => Answer::Pour(self.pour(&to, tray)),
         }
     }
 }
@@ -70,15 +53,16 @@ pub fn play<S: AnyStr, F: Searcher<S> + Drop, T: AnyStrContainer>(
     tray: &mut T,
     answers: &mut [Answer],
 ) -> Result<(), Refusal>
-    ensures { PlaysOut S.AnyStr.elements (opened_on (F.Searcher.marks searcher) (S.AnyStr.elements text) bound) calls.now answers.old answers.new (T.AnyStrContainer.held tray.old) (T.AnyStrContainer.spare tray.old) (T.AnyStrContainer.held tray.new) (T.AnyStrContainer.spare tray.new) result }
+    ensures { OnTray (PlaysOut S.AnyStr.elements (opened_on (F.Searcher.marks searcher) (S.AnyStr.elements text) bound) calls.now answers.old answers.new) T.AnyStrContainer.held T.AnyStrContainer.spare tray.old tray.new result }
 {
     let n = calls.len();
     if answers.len() < n {
         return Err(Refusal::TooSmall { needed: n as u64 });
     }
     let mut cutter = Cutter::open(text, searcher, bound);
-    for i in 0..n {
-        answers[i] = cutter.answer(calls[i], tray);
+    // Not zipped: once an adapter of `iter_mut` has ended, a proof knows nothing of what was written through it.
+    for (i, call) in calls.iter().enumerate() {
+        answers[i] = cutter.answer(*call, tray);
     }
     Ok(())
 }

@@ -1,10 +1,8 @@
 -- The number of cuts, by what a search answers and by the rule of a cutter.
-use Rattle.std.proofs.Common.{◌≡◌, ℕ, suc, ◌+◌, ◌-◌, ◌<◌, ◌≤◌, leb, List, [], ◌∷◌, length, negsuc, sym, refl, ap, ◌∙◌, subst, arith}
+use Rattle.std.proofs.Common.{◌≡◌, ℕ, zero, suc, ◌+◌, ◌<◌, ◌≤◌, leb, List, [], ◌∷◌, length, negsuc, sym, ap, ◌∙◌, subst, arith}
 use Rattle.std.proofs.lemmas.List.{nil_from_length}
 use Rattle.std.proofs.lemmas.Bool.{le-leb, lt-leb, cond-true, cond-false, leb-false, cond_both}
-use Rattle.std.specs.List.{concat}
-use Rattle.anystr.specs.OfBytes.{singles, concat-singles}
-use Rattle.searchers.specs.Marks.{Span, Least, NoneFrom}
+use Rattle.searchers.specs.Marks.{Span, CutTimes}
 use Rattle.substring.specs.Occurrences.{occurrence, occurrence-lawful}
 use Rattle.cuts.specs.Cuts.{cut_from}
 use Rattle.cuts.specs.Runs.{CutRule}
@@ -16,19 +14,14 @@ use Rattle.finds.specs.Counts.{cut_by, times, count_of, CutUp, Number}
 use Rattle.anystr.specs.Places.{part}
 use Rattle.finds.proofs.Parts.{length_part}
 
-pub times-some : (n bs : List ℕ) → 0 < length n → times n bs ≡ length (cut_from (cut_by n bs) 0 0)
-times-some [] bs some = absurd (omega arith)
-times-some (x ∷ n) bs some = refl
+-- as many cuts are still to be made from a place on as marks are cut from there
+cuts-are : (n bs : List ℕ) (made place k : ℕ) → CutTimes (occurrence n bs) place k → length (cut_from (cut_by n bs) made place) ≡ k
+cuts-are n bs made place zero none = ap length (none_found (cut_by n bs) (occurrence-lawful n bs) made place none)
+cuts-are n bs made place (suc k) (s, e, least, rest) = ap length (cut-found (cut_by n bs) (occurrence-lawful n bs) made place s e tt least) ∙ ap suc (cuts-are n bs (suc made) e k rest)
 
-module _ (n bs : List ℕ) (made place : ℕ) where
-  -- one cut more, and one fewer to make
-  pub one_cut : (s e : ℕ) → Least (occurrence n bs) place s e → length (cut_from (cut_by n bs) made place) ≡ suc (length (cut_from (cut_by n bs) (made + 1) e))
-  one_cut s e least =
-      let more : suc made ≡ made + 1 = omega arith in
-      ap length (cut-found (cut_by n bs) (occurrence-lawful n bs) made place s e tt least) ∙ ap (λ (k : ℕ). suc (length (cut_from (cut_by n bs) k e))) more
-
-  pub no_cut : NoneFrom (occurrence n bs) place → length (cut_from (cut_by n bs) made place) ≡ 0
-  no_cut none = ap length (none_found (cut_by n bs) (occurrence-lawful n bs) made place none)
+times-are : (n bs : List ℕ) (k : ℕ) → 0 < length n → CutTimes (occurrence n bs) 0 k → k ≡ times n bs
+times-are [] bs k some cut = absurd (omega arith)
+times-are (x ∷ n) bs k some cut = sym (cuts-are (x ∷ n) bs 0 0 k cut)
 
 cut_up : (n bs : List ℕ) → CutUp n bs (length (cut_from (cut_by n bs) 0 0))
 cut_up n bs =
@@ -43,12 +36,12 @@ cut_up n bs =
       number = sym (ap length end.2 ∙ length-marks end.0);
     }
 
-pub count-empty : (bs n : List ℕ) (a b : ℕ) → a ≤ b → b ≤ length bs → length n ≡ 0 → (b - a) + 1 ≡ count_of bs n a b
-count-empty bs [] a b le within none = omega (arith, cond-true (leb a b) (suc (length (part bs (a, b)))) 0 (le-leb a b le), length_part bs a b within)
-count-empty bs (x ∷ n) a b le within none = absurd (omega arith)
+pub count-empty : (bs n : List ℕ) (a b : ℕ) → a ≤ b → length n ≡ 0 → length (part bs (a, b)) + 1 ≡ count_of bs n a b
+count-empty bs [] a b le none = omega (arith, cond-true (leb a b) (suc (length (part bs (a, b)))) 0 (le-leb a b le))
+count-empty bs (x ∷ n) a b le none = absurd (omega arith)
 
-pub count-part : (bs n ps : List ℕ) (a b k : ℕ) → a ≤ b → concat (singles ps) ≡ part bs (a, b) → k ≡ times n ps → k ≡ count_of bs n a b
-count-part bs n ps a b k le is e = e ∙ (ap (times n) (sym (concat-singles ps) ∙ is) ∙ sym (cond-true (leb a b) (times n (part bs (a, b))) 0 (le-leb a b le)))
+pub count-part : (bs n : List ℕ) (a b k : ℕ) → a ≤ b → 0 < length n → CutTimes (occurrence n (part bs (a, b))) 0 k → k ≡ count_of bs n a b
+count-part bs n a b k le some cut = times-are n (part bs (a, b)) k some cut ∙ sym (cond-true (leb a b) (times n (part bs (a, b))) 0 (le-leb a b le))
 
 -- the definition keeps the law
 number : (bs n : List ℕ) (a b : ℕ) → b ≤ length bs → Number bs n a b (count_of bs n a b)

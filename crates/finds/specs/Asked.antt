@@ -5,12 +5,14 @@ use Rattle.std.specs.declared.ops.Range.{Range}
 use Rattle.anystr.specs.Indices.{start_of, end_of}
 use Rattle.anystr.specs.Limits.{most_bytes}
 use Rattle.anystr.specs.Refusals.{code}
+use Rattle.anystr.specs.declared.bytes.Bytes.{Bytes}
 use Rattle.anystr.specs.declared.refusal.Refusal.{Refusal}
 use Rattle.finds.specs.declared.either.Either.{Either}
 use Rattle.finds.specs.declared.either.Either.TheVariants.{A, B}
 use Rattle.finds.specs.declared.options.ByteInnerFindOptions.{ByteInnerFindOptions}
 use Rattle.finds.specs.declared.options.Needle.{Needle}
-use Rattle.finds.specs.declared.options.Needle.TheVariants.{Bytes, Byte}
+use Rattle.finds.specs.declared.options.Needle.TheVariants as needle_cases
+use Rattle.finds.specs.declared.stretch.Stretch.{Stretch}
 
 -- the byte that a number is
 abbrev pub byte_of : ℤ → Result ℕ (ℕ × ℕ)
@@ -45,8 +47,8 @@ sought n a b = (n, a, b)
 
 -- the bytes of a needle
 abbrev pub needle_bytes : Needle → List ℕ
-needle_bytes (Bytes bytes) = bytes.now
-needle_bytes (Byte byte) = byte
+needle_bytes (needle_cases.Bytes bytes) = bytes.now
+needle_bytes (needle_cases.Byte byte) = byte
 
 -- a needle and its offsets, by their bytes and numbers
 abbrev pub read : Result (Needle × Range ℕ) Refusal → Result Sought (ℕ × ℕ)
@@ -63,3 +65,10 @@ Kept rule (Err c) (Err e) = code e ≡ c
 -- an answer keeps a rule for the needle and the offsets that options mean in `len` bytes
 abbrev pub Keeps : {X : Type 0} → (List ℕ → ℕ → ℕ → X → Type 0) → ByteInnerFindOptions → ℕ → Result X Refusal → Type 0
 Keeps rule o len r = Kept (λ n x. rule n (start_of o.start len) (end_of o.end len) x) (sub_of o.sub) r
+
+-- a stretch and a needle are what options mean in a text
+pub record Meant (o : ByteInnerFindOptions) (text : Bytes) (stretch : Stretch) (needle : List ℕ) : Type 0 where
+  pub whole : stretch.text ≡ text
+  pub sub : sub_of o.sub ≡ Ok needle
+  pub start : stretch.range.start ≡ start_of o.start (length text.bytes.now)
+  pub end : stretch.range.end ≡ end_of o.end (length text.bytes.now)

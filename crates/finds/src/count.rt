@@ -1,43 +1,30 @@
 // The number of a needle's occurrences.
-ghost use Rattle.std.specs.Prelude.{◌≡◌, ◌<◌, ◌≤◌, length};
+ghost use Rattle.std.specs.Prelude.{◌≡◌, length};
 ghost use Rattle.anystr.specs.Refusals.{coded};
 ghost use Rattle.finds.specs.Asked.{asked, Keeps};
-ghost use Rattle.finds.specs.Counts.{count_of, times, Number};
+ghost use Rattle.finds.specs.Counts.{count_of, Number};
 
 use super::options::ByteInnerFindOptions;
+use super::stretch::Stretch;
 use anystr::anystr::AnyStr;
 use anystr::bytes::Bytes;
 use anystr::refusal::Refusal;
-use searchers::searcher::Searcher;
+use searchers::count::count_marks;
 use substring::Substring;
 
-// How often a needle that is not empty is cut from the front.
-fn cuts(part: Bytes<'_>, needle: Bytes<'_>) -> usize
-    requires { 0 < length needle.bytes.now }
-    ensures { result ≡ times needle.entry.bytes.now part.entry.bytes.now }
-{
-    let searcher = Substring::new(needle);
-    let mut made = 0;
-    let mut place = 0;
-    while let Some(mark) = searcher.find(&part, place) {
-        made += 1;
-        place = mark.end;
+impl<'a> Stretch<'a> {
+    // How often the needle is cut from the front; an empty one stands at each offset.
+    fn times(&self, needle: Bytes<'_>) -> usize
+        ensures { result ≡ count_of self.now.text.bytes.now needle.entry.bytes.now self.now.range.start self.now.range.end }
+    {
+        let Some(part) = self.part() else {
+            return 0;
+        };
+        if needle.is_empty() {
+            return part.bytes_len() + 1;
+        }
+        count_marks(&Substring::new(needle), &part)
     }
-    made
-}
-
-// How often from `start` to `end`.
-fn times_between(text: &Bytes<'_>, needle: &Bytes<'_>, start: usize, end: usize) -> usize
-    requires { end ≤ length text.now.bytes.now }
-    ensures { result ≡ count_of text.now.bytes.now needle.now.bytes.now start end }
-{
-    if start > end {
-        return 0;
-    }
-    if needle.is_empty() {
-        return end - start + 1;
-    }
-    cuts(text.get_bytes(start..end), *needle)
 }
 
 // How often the sub stands in the text without overlap, counted from the front, from the start that is meant to the
@@ -46,7 +33,5 @@ pub fn count(text: &Bytes<'_>, options: ByteInnerFindOptions<'_>) -> Result<usiz
     ensures value { coded result ≡ asked (count_of text.now.bytes.now) options.entry (length text.now.bytes.now) }
     ensures law { Keeps (Number text.now.bytes.now) options.entry (length text.now.bytes.now) result }
 {
-    let (needle, range) = options.get_value(text.bytes_len())?;
-    let needle = Bytes::new(needle.as_bytes());
-    Ok(times_between(text, &needle, range.start, range.end))
+    options.ask(text, |stretch, needle| stretch.times(needle))
 }

@@ -5,3 +5,4 @@ pub mod count;
 pub mod either;
 pub mod find;
 pub mod options;
+mod stretch;

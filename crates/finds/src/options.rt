@@ -1,9 +1,11 @@
 // What is looked for, and where.
-ghost use Rattle.std.specs.Prelude.{◌≡◌};
-ghost use Rattle.anystr.specs.Refusals.{coded};
-ghost use Rattle.finds.specs.Asked.{asked, byte_of, needle_bytes, read, sought};
+ghost use Rattle.std.specs.Prelude.{◌≡◌, Err, IfOk, IfErr};
+ghost use Rattle.anystr.specs.Refusals.{code, coded};
+ghost use Rattle.finds.specs.Asked.{asked, byte_of, needle_bytes, read, sought, sub_of, Meant};
 
 use super::either::Either;
+use super::stretch::Stretch;
+use anystr::anystr::AnyStr;
 use anystr::bytes::Bytes;
 use anystr::indices::adjust_indices;
 use anystr::refusal::Refusal;
@@ -17,7 +19,8 @@ pub struct ByteInnerFindOptions<'a> {
     pub end: Option<i64>,
 }
 
-// What a sub means: a byte string, or the byte of a number.
+// What a sub means: a byte string, or the byte of a number. Not an `Either` of a text and a byte: an enum that holds a
+// reference cannot hold a `Bytes`.
 #[derive(Clone, Copy)]
 pub enum Needle<'a> {
     Bytes(&'a [u8]),
@@ -28,10 +31,7 @@ pub enum Needle<'a> {
 pub fn byte_or(number: i64) -> Result<u8, Refusal>
     ensures { coded result ≡ byte_of number }
 {
-    match u8::try_from(number) {
-        Ok(byte) => Ok(byte),
-        Err(_) => Err(Refusal::NotByte),
-    }
+    u8::try_from(number).map_err(|_| Refusal::NotByte)
 }
 
 impl<'a> Needle<'a> {
@@ -61,5 +61,21 @@ impl<'a> ByteInnerFindOptions<'a> {
             Either::B(number) => Needle::Byte([byte_or(number)?]),
         };
         Ok((needle, adjust_indices(self.start, self.end, len)))
+    }
+
+    // What `search` answers for the stretch and the needle that are meant in the text; refused where the sub is no byte
+    // or too long.
+    pub(super) fn ask<R, F: FnOnce(Stretch<'_>, Bytes<'_>) -> R>(
+        self,
+        text: &Bytes<'_>,
+        search: F,
+    ) -> Result<R, Refusal>
+        requires { F.IsAlwaysCallable search }
+        ensures answer { IfOk result (λ x. (stretch : _) × (needle : _) × Meant self.entry text.now stretch needle.bytes.now × F.post search stretch needle x) }
+        ensures refused { IfErr result (λ e. sub_of self.entry.sub ≡ Err (code e)) }
+    {
+        let (needle, range) = self.get_value(text.bytes_len())?;
+        let stretch = Stretch { text: *text, range };
+        Ok(search(stretch, Bytes::new(needle.as_bytes())))
     }
 }

@@ -1,4 +1,4 @@
 pub mod Places
 pub mod Joining
 pub mod Law
-pub mod Answering
+pub mod Checks

@@ -1,33 +1,27 @@
 // The search for line ends.
 #![tactic(auto)]
 
-ghost use Rattle.std.specs.Prelude.{◌≡◌, ◌<◌, T, length};
+ghost use Rattle.std.specs.Prelude.{◌≡◌, ◌<◌, ◌==◌, T, length, slice_index};
 ghost use Rattle.std.specs.List.{concat};
-ghost use Rattle.lineends.specs.Lines.{cr, lf, line_end, line_end-lawful};
+ghost use Rattle.lineends.specs.Lines.{line_end, line_end-lawful};
+ghost use Rattle.lineends.specs.OnText.{line-ends_on};
 
-use searchers::ascii::AsciiStr;
+use searchers::ascii::{AsciiPattern, AsciiStr, first_ascii_mark, last_ascii_mark};
 use searchers::mark::Mark;
-use searchers::scan::{Pattern, first_mark, last_mark};
+use searchers::scan::Pattern;
 use searchers::searcher::{ReverseSearcher, Searcher};
 
 // A searcher whose marks are `\r\n`, `\r` that no `\n` follows, and `\n` that no `\r` precedes.
 #[derive(Clone, Copy)]
 pub struct LineEnds;
 
-// Whether a carriage return stands at `offset`.
-fn is_cr(bytes: &[u8], offset: usize) -> bool
-    ensures value { result ≡ cr bytes.now offset }
+// Whether the byte stands at `offset`. It is not 0, which the contract reads past the end.
+fn is_at(bytes: &[u8], offset: usize, byte: u8) -> bool
+    requires { 0 < byte }
+    ensures value { result ≡ (slice_index bytes.now offset == byte) }
     ensures within { T result → offset < length bytes.now }
 {
-    offset < bytes.len() && bytes[offset] == b'\r'
-}
-
-// Whether a line feed stands at `offset`.
-fn is_lf(bytes: &[u8], offset: usize) -> bool
-    ensures value { result ≡ lf bytes.now offset }
-    ensures within { T result → offset < length bytes.now }
-{
-    offset < bytes.len() && bytes[offset] == b'\n'
+    bytes.get(offset) == Some(&byte)
 }
 
 impl Pattern for LineEnds {
@@ -36,36 +30,27 @@ impl Pattern for LineEnds {
     ghost lawful = { λ _. line_end-lawful };
 
     fn mark_from(&self, bytes: &[u8], start: usize) -> Option<usize> {
-        if is_cr(bytes, start) {
-            return if is_lf(bytes, start + 1) {
-                Some(start + 2)
-            } else {
-                Some(start + 1)
-            };
+        match bytes.get(start)? {
+            b'\r' if is_at(bytes, start + 1, b'\n') => Some(start + 2),
+            b'\r' => Some(start + 1),
+            b'\n' if start == 0 || !is_at(bytes, start - 1, b'\r') => Some(start + 1),
+            _ => None,
         }
-        if is_lf(bytes, start) && (start == 0 || !is_cr(bytes, start - 1)) {
-            return Some(start + 1);
-        }
-        None
     }
 
     fn mark_to(&self, bytes: &[u8], end: usize) -> Option<usize> {
-        if end == 0 {
-            return None;
+        let last = end.checked_sub(1)?;
+        match bytes.get(last)? {
+            b'\n' if last > 0 && is_at(bytes, last - 1, b'\r') => Some(last - 1),
+            b'\n' => Some(last),
+            b'\r' if !is_at(bytes, end, b'\n') => Some(last),
+            _ => None,
         }
-        let last = end - 1;
-        if is_lf(bytes, last) {
-            return if last > 0 && is_cr(bytes, last - 1) {
-                Some(last - 1)
-            } else {
-                Some(last)
-            };
-        }
-        if is_cr(bytes, last) && !is_lf(bytes, end) {
-            return Some(last);
-        }
-        None
     }
+}
+
+impl AsciiPattern for LineEnds {
+    ghost bounded = { λ _. line-ends_on };
 }
 
 impl<S: AsciiStr> Searcher<S> for LineEnds {
@@ -74,14 +59,12 @@ impl<S: AsciiStr> Searcher<S> for LineEnds {
     ghost lawful = { λ _ es. line_end-lawful (concat es) };
 
     fn find(&self, text: &S, from: usize) -> Option<Mark> {
-        text.ascii_apart();
-        first_mark(self, text.as_bytes(), from)
+        first_ascii_mark(self, text, from)
     }
 }
 
 impl<S: AsciiStr> ReverseSearcher<S> for LineEnds {
     fn rfind(&self, text: &S, before: usize) -> Option<Mark> {
-        text.ascii_apart();
-        last_mark(self, text.as_bytes(), before)
+        last_ascii_mark(self, text, before)
     }
 }

@@ -9,7 +9,7 @@ ghost use Rattle.lines.specs.Lines.{lines_of, LinesLaw};
 use anystr::place::Place;
 use anystr::refusal::Refusal;
 use lineends::LineEnds;
-use pieces::fill::{count, fill, room};
+use pieces::fill::list;
 use searchers::ascii::AsciiStr;
 
 mod reader;
@@ -19,7 +19,7 @@ use reader::Lines;
 // How `splitlines` gives the lines.
 #[derive(Clone, Copy)]
 pub struct SplitLinesArgs {
-    // whether each line has its end
+    // whether each line has its end, by the Rust crate's name
     pub keepends: bool,
 }
 
@@ -33,10 +33,5 @@ pub fn splitlines<S: AsciiStr>(
     ensures value { Lists (Ok (lines_of (concat (S.AnyStr.elements text.now)) args.keepends)) places.old places.new result }
     ensures law { LinesLaw (concat (S.AnyStr.elements text.now)) (lines_of (concat (S.AnyStr.elements text.now)) false) (lines_of (concat (S.AnyStr.elements text.now)) true) }
 {
-    let n = room(
-        count(&mut Lines::new(*text, LineEnds, args.keepends)),
-        places,
-    )?;
-    fill(&mut Lines::new(*text, LineEnds, args.keepends), places);
-    Ok(n)
+    list(Lines::new(*text, LineEnds, args.keepends), places)
 }

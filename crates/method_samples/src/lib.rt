@@ -13,6 +13,8 @@ pub fn sample_count() -> usize
 }
 
 #[cfg(test)]
+mod codes;
+#[cfg(test)]
 mod limits;
 #[cfg(test)]
 mod rooms;

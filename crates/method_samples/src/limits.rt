@@ -1,8 +1,8 @@
 // Texts, needles and lists of places at the limits and one beyond.
+use super::codes::{Code, code};
 use anystr::anystr::{AnyStr, MAX_BYTES};
 use anystr::bytes::Bytes;
 use anystr::place::Place;
-use anystr::refusal::Refusal;
 use bytesinner::{find, join};
 use finds::either::Either;
 use finds::options::ByteInnerFindOptions;
@@ -11,37 +11,24 @@ use std::test::Fail;
 use text::Text;
 use trays::label::Label;
 
-// the code of a call that passes
-const PASSES: (u8, u64) = (0, 0);
-
-const TOO_LONG: (u8, u64) = (6, 0);
-
-fn code(answer: Result<(), Refusal>) -> (u8, u64) {
-    match answer {
-        Ok(()) => PASSES,
-        Err(refusal) => refusal.code(),
-    }
-}
+const TOO_LONG: Code = Err((6, 0));
 
 // What the search for a needle answers where the start lies past the end.
-fn sought<'a>(text: &'a [u8], sub: &'a [u8]) -> (u8, u64) {
+fn sought<'a>(text: &'a [u8], sub: &'a [u8]) -> Code {
     let text = Bytes::new(text);
     let options = ByteInnerFindOptions {
         sub: Either::A(sub),
         start: Some(1),
         end: Some(0),
     };
-    match find(&text, options) {
-        Ok(_) => PASSES,
-        Err(refusal) => refusal.code(),
-    }
+    code(find(&text, options).map(|_| ()))
 }
 
 #[test]
 fn the_longest_text(rt: HostRuntime) -> Result<(), Fail> {
     let longest = vec![in rt.alloc(); b'a'; MAX_BYTES]?;
-    assert_eq!(rt; code(Bytes::check(longest.as_slice())), PASSES);
-    assert_eq!(rt; code(Text::check(longest.as_slice())), PASSES);
+    assert_eq!(rt; code(Bytes::check(longest.as_slice())), Ok(()));
+    assert_eq!(rt; code(Text::check(longest.as_slice())), Ok(()));
     assert_eq!(rt; Bytes::new(longest.as_slice()).bytes_len(), MAX_BYTES);
     assert_eq!(rt; Text::new(longest.as_slice()).element_count(), MAX_BYTES);
     Ok(())
@@ -68,7 +55,7 @@ fn the_most_places(rt: HostRuntime) -> Result<(), Fail> {
     let mut label = Label::new();
     assert_eq!(rt;
         code(join(&empty, &empty, most.as_slice(), &mut label)),
-        PASSES
+        Ok(())
     );
     assert_eq!(rt;
         code(join(&empty, &empty, more.as_slice(), &mut label)),
@@ -76,7 +63,7 @@ fn the_most_places(rt: HostRuntime) -> Result<(), Fail> {
     );
     assert_eq!(rt;
         code(join(&comma, &empty, most.as_slice(), &mut label)),
-        (7, MAX_BYTES as u64)
+        Err((7, MAX_BYTES as u64))
     );
     Ok(())
 }

@@ -1,15 +1,15 @@
 // Trays that are just full, and what lies past the bytes that they hold.
+use super::codes::{Code, code};
 use anystr::anystr::AnyStr;
 use anystr::bytes::Bytes;
 use anystr::optional::OptionalArg;
 use bytesinner::replace;
-use std::test::Fail;
 use trays::buffer::Buffer;
 use trays::container::AnyStrContainer;
 use trays::label::{LABEL_BYTES, Label};
 
 // `.P.y.` into a tray over the first bytes of a lent slice, and the slice after it.
-fn dotted(free: usize) -> (Option<(u8, u64)>, [u8; 7]) {
+fn dotted(free: usize) -> (Code, [u8; 7]) {
     let mut lent = *b"abcdefg";
     let end = free.min(7);
     let mut tray = Buffer::new(&mut lent[0..end]);
@@ -20,31 +20,23 @@ fn dotted(free: usize) -> (Option<(u8, u64)>, [u8; 7]) {
         OptionalArg::Missing,
         &mut tray,
     );
-    let code = match answer {
-        Ok(()) => None,
-        Err(refusal) => Some(refusal.code()),
-    };
-    (code, lent)
+    (code(answer), lent)
 }
 
 #[test]
 fn five_bytes_into_a_buffer(rt: HostRuntime) {
-    assert_eq!(rt; dotted(4), (Some((7, 5)), *b"abcdefg"));
-    assert_eq!(rt; dotted(5), (None, *b".P.y.fg"));
-    assert_eq!(rt; dotted(7), (None, *b".P.y.fg"));
+    assert_eq!(rt; dotted(4), (Err((7, 5)), *b"abcdefg"));
+    assert_eq!(rt; dotted(5), (Ok(()), *b".P.y.fg"));
+    assert_eq!(rt; dotted(7), (Ok(()), *b".P.y.fg"));
 }
 
 #[test]
-fn eighty_bytes_into_a_label(rt: HostRuntime) -> Result<(), Fail> {
+fn eighty_bytes_into_a_label(rt: HostRuntime) {
     let mut label = Label::new();
     let full = [b'a'; LABEL_BYTES];
     assert!(rt; label.push_str(&Bytes::new(&full)).is_ok());
     assert_eq!(rt; label.free(), 0);
     assert!(rt; label.push_str(&Bytes::new(b"")).is_ok());
-    match label.push_str(&Bytes::new(b"b")) {
-        Ok(()) => return Err(Fail::new("a full label took a byte")),
-        Err(refusal) => assert_eq!(rt; refusal.code(), (7, 1)),
-    };
+    assert_eq!(rt; code(label.push_str(&Bytes::new(b"b"))), Err((7, 1)));
     assert_eq!(rt; label.as_bytes(), &full[..]);
-    Ok(())
 }

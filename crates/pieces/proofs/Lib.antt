@@ -1,2 +1,2 @@
-pub mod Steps
+pub mod Counted
 pub mod Written

@@ -1,1 +1,2 @@
+pub mod Skipped
 pub mod Sources

@@ -1,22 +1,12 @@
 // Lists of places, written from a source of pieces.
-ghost use Rattle.std.specs.Prelude.{◌≡◌, length, take, drop, if◌then◌else◌, Ok, Err, nat_le};
+ghost use Rattle.std.specs.Prelude.{◌≡◌, length, take, if◌then◌else◌, Ok, Err, nat_le};
 ghost use Rattle.anystr.specs.Refusals.{coded};
+ghost use Rattle.anystr.specs.Places.{Lists};
 ghost use Rattle.pieces.specs.Sources.{Filled};
 
 use super::source::Pieces;
 use anystr::place::Place;
 use anystr::refusal::Refusal;
-
-// The number of pieces that are left; none is left after it.
-pub fn count<P: Pieces>(source: &mut P) -> usize
-    ensures { result ≡ length (P.Pieces.left source.old) }
-{
-    let mut n = 0;
-    while let Some(_) = source.next_piece() {
-        n += 1;
-    }
-    n
-}
 
 // Whether a list has room for so many places; refused where it has fewer entries.
 pub fn room(needed: usize, places: &[Place]) -> Result<usize, Refusal>
@@ -31,26 +21,25 @@ pub fn room(needed: usize, places: &[Place]) -> Result<usize, Refusal>
     }
 }
 
-// Passes over `n` pieces, or over all that are left.
-pub fn pass<P: Pieces>(source: &mut P, n: usize)
-    ensures { P.Pieces.left source.new ≡ drop n (P.Pieces.left source.old) }
-{
-    for _ in 0..n {
-        let _ = source.next_piece();
-    }
-}
-
 // Writes the next pieces into the places, one into each; a place past the last piece is as it was.
 pub fn fill<P: Pieces>(source: &mut P, places: &mut [Place])
     ensures { Filled (take (length places.old) (P.Pieces.left source.old)) places.old places.new }
 {
-    for i in 0..places.len() {
-        let Some(piece) = source.next_piece() else {
+    // Not zipped: once an adapter of `iter_mut` has ended, a proof knows nothing of what was written through it.
+    for place in places.iter_mut() {
+        let Some(piece) = source.next() else {
             break;
         };
-        places[i] = Place {
-            start: piece.start,
-            end: piece.end,
-        };
+        *place = piece.into();
     }
+}
+
+// Writes all the pieces of a source into the list, and gives their number. They are counted first, so that a
+// list with too few entries is refused as it was.
+pub fn list<P: Pieces + Copy>(mut source: P, places: &mut [Place]) -> Result<usize, Refusal>
+    ensures { Lists (Ok (P.Pieces.left source)) places.old places.new result }
+{
+    let n = room(source.count(), places)?;
+    fill(&mut source, places);
+    Ok(n)
 }

@@ -1,5 +1,5 @@
 -- What the passes of replace leave in the tray.
-use Rattle.std.proofs.Common.{◌≡◌, ℕ, suc, ◌+◌, ◌-◌, ◌*◌, ◌<◌, ◌≤◌, true, false, List, length, ℤ, pos, negsuc, Some, None, Ok, Err, Result, sym, refl, ap, ◌∙◌, subst, arith}
+use Rattle.std.proofs.Common.{◌≡◌, ℕ, ◌+◌, ◌*◌, ◌≤◌, true, false, List, length, ℤ, pos, negsuc, Some, None, Ok, Err, Result, sym, ap, ◌∙◌, subst, arith}
 use mathlib.Core.Bool.{false≢true}
 use lib.Signed.{lt_z}
 use Rattle.std.specs.List.{concat}
@@ -10,17 +10,17 @@ use Rattle.anystr.specs.declared.anystr.AnyStr
 use Rattle.anystr.specs.declared.optional.OptionalArg.{OptionalArg}
 use Rattle.anystr.specs.declared.optional.OptionalArg.TheVariants.{Present}
 use Rattle.anystr.specs.declared.refusal.Refusal.{Refusal}
-use Rattle.anystr.specs.declared.refusal.Refusal.TheVariants.{TooSmall, ResultTooLong}
 use Rattle.searchers.specs.Marks.{Marks}
 use Rattle.searchers.specs.declared.searcher.Searcher
+use Rattle.substring.specs.Occurrences.{occurrence}
+use Rattle.substring.specs.declared.Substring.{Substring}
 use Rattle.trays.specs.Trays.{Pushed, Fills}
-use Rattle.cuts.specs.Cuts.{opened, State, cut_from, poured}
+use Rattle.cuts.specs.Cuts.{Sheet, opened, State, cut_from, poured}
 use Rattle.cuts.specs.Runs.{needed}
 use Rattle.cutters.specs.Calls.{sheet, state, Pours}
 use Rattle.cutters.specs.declared.cutter.Cutter.{Cutter}
-use Rattle.replaces.specs.Replaces.{most_result, unbounded, bound_of, spread, copies, cut_out, replaced, if_short}
-use Rattle.replaces.proofs.Law.{at-elements, spread-within, cut-within, short, is-short, is-long}
-use Rattle.replaces.proofs.Spreading.{spread-copies, spread-size}
+use Rattle.replaces.specs.Replaces.{most_result, unbounded, bound_of, spread, copies, sheet_of, cut_out, if_short}
+use Rattle.replaces.proofs.Law.{spread-long, spread-within, cut-within, short, is-short}
 
 -- a pour from a cutter just opened
 pub pour-pushed : {S F C X Tray : Type 0} {s : AnyStr.Ghosts S C} {f : Searcher.Ghosts F S C} (marks : F → List (List ℕ) → Marks) (elements : S → List (List ℕ)) (held spare : Tray → List ℕ) (c : Cutter S F C s f) (to : S) (tray : Tray) (r : Result X Refusal) (d : Cutter S F C s f) (tray' : Tray)
@@ -34,28 +34,25 @@ pour-pushed {X = X} marks elements held spare c to tray (Err e) d tray' new (Som
     let P : State → Type 0 = λ s. Pushed {X = X} (needed (sheet marks elements c) (concat (elements to)) s) (held tray) (spare tray) (held tray') (spare tray') (Err e) in
     subst P new (st.1, q ∙ (λ i. (7, st.2 i)), st.3, l)
 
-module _ (X : Type 0) (bytes held spare held' spare' : List ℕ) where
-  -- bytes within the limits are pushed, or refused with their number
-  pub fills : (all : List ℕ) (r : Result X Refusal) → bytes ≡ all → length all ≤ most_result → Pushed all held spare held' spare' r → Fills (if_short bytes) held spare held' spare' r
-  fills all r same le p = let P : Result (List ℕ) (ℕ × ℕ) → Type 0 = λ o. Fills o held spare held' spare' r in subst P (sym (ap if_short same ∙ is-short all le)) p
+-- one on a text, with the occurrences of another for its marks
+pub cut_pushed : {S C X Tray : Type 0} {s : AnyStr.Ghosts S C} {f : Searcher.Ghosts (Substring S C) S C} (elements : S → List (List ℕ)) (held spare : Tray → List ℕ) (c : Cutter S (Substring S C) C s f) (text from to : S) (bound : ℤ) (tray : Tray) (r : Result X Refusal) (d : Cutter S (Substring S C) C s f) (tray' : Tray)
+    → c.text ≡ text → c.searcher.needle ≡ from → c.bound ≡ bound → state c ≡ opened → Pours (λ f xs. occurrence (concat (elements f.needle)) (concat xs)) elements held spare c to tray r d tray'
+    → Pushed (cut_out (elements text) (concat (elements from)) (concat (elements to)) bound) (held tray) (spare tray) (held tray') (spare tray') r
+cut_pushed elements held spare c text from to bound tray r d tray' t n b new p =
+    let P : Sheet → Type 0 = λ on. Pushed (poured on.bytes (concat (elements to)) 0 (cut_from on 0 0)) (held tray) (spare tray) (held tray') (spare tray') r in
+    subst P (λ i. sheet_of (elements (t i)) (concat (elements (n i))) (b i)) (pour-pushed (λ f xs. occurrence (concat (elements f.needle)) (concat xs)) elements held spare c to tray r d tray' new p)
 
-  -- a push refused with too great a number
-  pub too_long : (all : List ℕ) (n : ℕ) → bytes ≡ all → most_result < n → Pushed {X = X} all held spare held' spare' (Err (TooSmall n)) → Fills {X = X} (if_short bytes) held spare held' spare' (Err ResultTooLong)
-  too_long all n same lt p =
-      let is : n ≡ length all = ap (λ x. x.1) p.1 in
-      let P : Result (List ℕ) (ℕ × ℕ) → Type 0 = λ o. Fills {X = X} o held spare held' spare' (Err ResultTooLong) in
-      subst P (sym (ap if_short same ∙ is-long all (omega arith))) (refl, p.2, p.3)
+-- bytes within the limits are pushed, or refused with their number
+pub fills : (X : Type 0) (bytes held spare held' spare' all : List ℕ) (r : Result X Refusal) → bytes ≡ all → length all ≤ most_result → Pushed all held spare held' spare' r → Fills (if_short bytes) held spare held' spare' r
+fills X bytes held spare held' spare' all r same le p = rw (same, is-short all le) p
 
 -- the sum that the code forms
-pub spread-sum : (es : List (List ℕ)) (to : List ℕ) (n len gap : ℕ) → n ≤ suc (length es) → len ≡ length (concat es) → gap ≡ length to → len + n * gap ≡ length (spread to (pos n) 0 es)
-spread-sum es to n len gap few l t = let all : n ≡ n - 0 = omega arith in (λ i. l i + all i * t i) ∙ sym (spread-size to n es 0 (omega arith))
+module _ (es : List (List ℕ)) (to : List ℕ) (bound : ℤ) (n len gap : ℕ) (count : n ≡ copies (length es) bound) (bytes : len ≡ length (concat es)) (each : gap ≡ length to) where
+  pub spread-sum : len + n * gap ≡ length (spread to bound 0 es)
+  spread-sum = rw (count, bytes, each) (sym (spread-long es to bound))
 
-pub spread-short : (es : List (List ℕ)) (to : List ℕ) (bound : ℤ) → Filled es → length (concat es) ≤ most_bytes → length to ≤ most_bytes → length (spread to bound 0 es) ≤ most_result
-spread-short es to bound filled few some = short (spread to bound 0 es) (concat es) to few some (spread-within es to bound filled)
-
--- an empty `from`, by the copies of `to`
-pub as_copies : (es : List (List ℕ)) (from to : List ℕ) (bound : ℤ) (n : ℕ) → length from ≡ 0 → n ≡ copies (length es) bound → replaced es from to bound ≡ spread to (pos n) 0 es
-as_copies es from to bound n none is = at-elements es from to bound none ∙ (spread-copies to bound es ∙ ap (λ k. spread to (pos k) 0 es) (sym is))
+  pub spread-fits : Filled es → length (concat es) ≤ most_bytes → length to ≤ most_bytes → len + n * gap ≤ most_result
+  spread-fits filled few some = rw spread-sum (short (spread to bound 0 es) (concat es) to few some (spread-within es to bound filled))
 
 pub cut_short : (es : List (List ℕ)) (from to : List ℕ) (bound : ℤ) → length (concat es) ≤ most_bytes → length to ≤ most_bytes → length (cut_out es from to bound) ≤ most_result
 cut_short es from to bound few some = short (cut_out es from to bound) (concat es) to few some (cut-within es from to bound)

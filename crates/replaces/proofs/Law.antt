@@ -1,7 +1,7 @@
 -- The law of replace.
-use Rattle.std.proofs.Common.{◌≡◌, ℕ, suc, ◌+◌, ◌-◌, ◌*◌, ◌<◌, ◌≤◌, List, length, ℤ, pos, Ok, Err, refl, ap, ◌∙◌, ⊎_elim, suc-mul, mul-le-mul, arith}
+use Rattle.std.proofs.Common.{◌≡◌, ℕ, suc, ◌+◌, ◌-◌, ◌*◌, ◌≤◌, List, length, ℤ, pos, Ok, refl, ap, ◌∙◌, ⊎_elim, suc-mul, mul-le-mul, arith}
 use Rattle.std.specs.List.{concat}
-use Rattle.std.proofs.lemmas.Bool.{cond-true, cond-false, eq-eqb, ne_eqb, le-leb, lt-leb, cases_eq}
+use Rattle.std.proofs.lemmas.Bool.{cond-true, cond-false, eq-eqb, ne_eqb, le-leb, cases_eq}
 use Rattle.anystr.specs.Elements.{Filled}
 use Rattle.anystr.specs.Limits.{most_bytes}
 use Rattle.substring.specs.Occurrences.{occurrence, occurrence-lawful}
@@ -45,9 +45,6 @@ short bytes all to few some size =
 
 pub is-short : (bytes : List ℕ) → length bytes ≤ most_result → if_short bytes ≡ Ok bytes
 is-short bytes le = cond-true _ _ _ (le-leb (length bytes) most_result le)
-
-pub is-long : (bytes : List ℕ) → most_result < length bytes → if_short bytes ≡ Err (5, 0)
-is-long bytes lt = cond-false _ _ _ (lt-leb (length bytes) most_result lt)
 
 -- the bound 0 leaves the text
 pub none-replaced : (es : List (List ℕ)) (from to : List ℕ) → replaced es from to (pos 0) ≡ concat es

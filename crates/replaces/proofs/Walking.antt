@@ -2,10 +2,11 @@
 use Rattle.std.proofs.Common.{◌≡◌, ℕ, ◌+◌, ◌-◌, ◌<◌, ◌≤◌, List, [], ◌∷◌, ◌++◌, length, get_or, take, drop, Some, None, sym, refl, ap, ◌∙◌, ⊎_elim, arith, length-append}
 use Rattle.std.specs.List.{concat}
 use Rattle.std.proofs.lemmas.List.{append-nil, take_more, drop_more, take_all, take_rest, drop_at}
+use Rattle.std.proofs.lemmas.List.Folds.{concat-append}
 use Rattle.std.proofs.lemmas.Bool.{cases_lt}
 use Rattle.anystr.specs.Elements.{offset, element_at, Filled, Cut, Part}
 use Rattle.anystr.proofs.Begins.{filled_at, begins, none-begins}
-use Rattle.anystr.proofs.Parts.{concat-append, concat-part}
+use Rattle.anystr.proofs.Parts.{concat-part}
 use Rattle.anystr.specs.Places.{part}
 use Rattle.joins.proofs.Places.{offset-within, cut-joined}
 

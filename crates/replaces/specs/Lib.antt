@@ -1,1 +1,2 @@
 pub mod Replaces
+pub mod Replacements

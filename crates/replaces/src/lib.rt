@@ -1,122 +1,106 @@
 // A text with another in place of a third.
 #![tactic(auto)]
 
-ghost use Rattle.std.specs.Prelude.{◌≡◌, suc, ◌≤◌, ◌++◌, length, drop, pos};
+ghost use Rattle.std.specs.Prelude.{◌≡◌, ◌≤◌, length};
 ghost use Rattle.std.specs.List.{concat};
-ghost use Rattle.trays.specs.Trays.{Pushed, Fills};
-ghost use Rattle.replaces.specs.Replaces.{bound_of, spread, copies as copies_of, cut_out, if_short, replace_of, ReplaceLaw};
+ghost use Rattle.trays.specs.Trays.{Fills, Grown, OnTray};
+ghost use Rattle.replaces.specs.Replaces.{bound_of, copies as copies_of, if_short, replace_of, ReplaceLaw};
+ghost use Rattle.replaces.specs.Replacements.{marks_replaced, copies_spread};
 
 use anystr::anystr::AnyStr;
 use anystr::optional::OptionalArg;
 use anystr::refusal::Refusal;
+use cutters::bound::UNBOUNDED;
 use cutters::cutter::Cutter;
 use substring::Substring;
 use trays::container::AnyStrContainer;
 
 // The most bytes of a result.
-pub const MAX_RESULT: u64 = 9_223_372_036_854_775_807;
+pub const MAX_RESULT: u64 = i64::MAX as u64;
 
-// The bound of the replacements where there is none.
-const UNBOUNDED: i64 = -1;
-
-// Appends the text, cut at the occurrences of a nonempty `from`, with `to` in place of each.
-fn pour_cuts<S: AnyStr, T: AnyStrContainer>(
-    text: &S,
-    from: &S,
-    to: &S,
+// A text, with another in place of a third, as often as the bound allows.
+#[derive(Clone, Copy)]
+struct Replacement<S: AnyStr> {
+    text: S,
+    from: S,
+    to: S,
     bound: i64,
-    tray: &mut T,
-) -> Result<(), Refusal>
-    ensures { Pushed (cut_out (S.AnyStr.elements text.now) (concat (S.AnyStr.elements from.now)) (concat (S.AnyStr.elements to.now)) bound) (T.AnyStrContainer.held tray.old) (T.AnyStrContainer.spare tray.old) (T.AnyStrContainer.held tray.new) (T.AnyStrContainer.spare tray.new) result }
-{
-    let mut cutter = Cutter::open(*text, Substring::new(*from), bound);
-    cutter.pour(to, tray)
 }
 
-// The text with `to` in place of the occurrences of a nonempty `from`.
-fn replace_marks<S: AnyStr, T: AnyStrContainer>(
-    text: &S,
-    from: &S,
-    to: &S,
-    bound: i64,
-    tray: &mut T,
-) -> Result<(), Refusal>
-    ensures { Fills (if_short (cut_out (S.AnyStr.elements text.now) (concat (S.AnyStr.elements from.now)) (concat (S.AnyStr.elements to.now)) bound)) (T.AnyStrContainer.held tray.old) (T.AnyStrContainer.spare tray.old) (T.AnyStrContainer.held tray.new) (T.AnyStrContainer.spare tray.new) result }
-{
-    match pour_cuts(text, from, to, bound, tray) {
-        Err(Refusal::TooSmall { needed }) if needed > MAX_RESULT => Err(Refusal::ResultTooLong),
-        answer => answer,
-    }
-}
-
-// The copies of `to` before the elements of a text and at its end.
-fn copies<S: AnyStr>(text: &S, bound: i64) -> u64
-    ensures { result ≡ copies_of (length (S.AnyStr.elements text.now)) bound }
-{
-    let gaps = text.element_count() as u64 + 1;
-    if bound < 0 {
-        gaps
-    } else {
-        gaps.min(bound as u64)
-    }
-}
-
-// Appends the text, which fits, with this many copies of `to`: one before each element, and the last at the end.
-fn spread_copies<S: AnyStr, T: AnyStrContainer>(text: &S, to: &S, copies: u64, tray: &mut T)
-    requires few { copies ≤ suc (length (S.AnyStr.elements text.now)) }
-    requires fits { length (spread (concat (S.AnyStr.elements to.now)) (pos copies) 0 (S.AnyStr.elements text.now)) ≤ length (T.AnyStrContainer.spare tray.old) }
-    ensures held { T.AnyStrContainer.held tray.new ≡ T.AnyStrContainer.held tray.old ++ spread (concat (S.AnyStr.elements to.now)) (pos copies) 0 (S.AnyStr.elements text.now) }
-    ensures spare { T.AnyStrContainer.spare tray.new ≡ drop (length (spread (concat (S.AnyStr.elements to.now)) (pos copies) 0 (S.AnyStr.elements text.now))) (T.AnyStrContainer.spare tray.old) }
-{
-    let mut place = 0;
-    for made in 0..copies {
-        let _ = tray.push_str(to);
-        if let Some((_, len)) = text.element_at(place) {
-            let end = place + len;
-            let _ = tray.push_str(&text.get_bytes(place..end));
-            place = end;
+impl<S: AnyStr> Replacement<S> {
+    // The text with `to` in place of the occurrences of a nonempty `from`.
+    fn replace_marks<T: AnyStrContainer>(&self, tray: &mut T) -> Result<(), Refusal>
+        ensures { OnTray (Fills (if_short (marks_replaced S.AnyStr.elements self.now))) T.AnyStrContainer.held T.AnyStrContainer.spare tray.old tray.new result }
+    {
+        let mut cutter = Cutter::open(self.text, Substring::new(self.from), self.bound);
+        match cutter.pour(&self.to, tray) {
+            Err(Refusal::TooSmall { needed }) if needed > MAX_RESULT => Err(Refusal::ResultTooLong),
+            answer => answer,
         }
     }
-    let _ = tray.push_str(&text.get_bytes(place..text.bytes_len()));
-}
 
-// The text with this many copies of `to`: one before each element, and the last at the end.
-fn replace_empty<S: AnyStr, T: AnyStrContainer>(
-    text: &S,
-    to: &S,
-    copies: u64,
-    tray: &mut T,
-) -> Result<(), Refusal>
-    requires { copies ≤ suc (length (S.AnyStr.elements text.now)) }
-    ensures { Fills (if_short (spread (concat (S.AnyStr.elements to.now)) (pos copies) 0 (S.AnyStr.elements text.now))) (T.AnyStrContainer.held tray.old) (T.AnyStrContainer.spare tray.old) (T.AnyStrContainer.held tray.new) (T.AnyStrContainer.spare tray.new) result }
-{
-    let needed = text.bytes_len() as u64 + copies * to.bytes_len() as u64;
-    if needed > MAX_RESULT {
-        return Err(Refusal::ResultTooLong);
+    // The copies of `to` before the elements of the text and at its end.
+    fn copies(&self) -> u64
+        ensures { result ≡ copies_of (length (S.AnyStr.elements self.now.text)) self.now.bound }
+    {
+        let gaps = self.text.element_count() as u64 + 1;
+        u64::try_from(self.bound).map_or(gaps, |bound| gaps.min(bound))
     }
-    if (tray.free() as u64) < needed {
-        return Err(Refusal::TooSmall { needed });
-    }
-    spread_copies(text, to, copies, tray);
-    Ok(())
-}
 
-// The text with `to` in place of `from`, as often as the bound allows.
-fn replace_bounded<S: AnyStr, T: AnyStrContainer>(
-    text: &S,
-    from: &S,
-    to: &S,
-    bound: i64,
-    tray: &mut T,
-) -> Result<(), Refusal>
-    ensures { Fills (replace_of (S.AnyStr.elements text.now) (concat (S.AnyStr.elements from.now)) (concat (S.AnyStr.elements to.now)) bound) (T.AnyStrContainer.held tray.old) (T.AnyStrContainer.spare tray.old) (T.AnyStrContainer.held tray.new) (T.AnyStrContainer.spare tray.new) result }
-{
-    if !from.is_empty() {
-        replace_marks(text, from, to, bound, tray)
-    } else if !to.is_empty() {
-        replace_empty(text, to, copies(text, bound), tray)
-    } else {
-        tray.push_str(text)
+    // The bytes that the text takes with these copies of `to`, which are counted once: that goes over the text.
+    fn measure(&self, copies: u64) -> u64
+        requires { copies ≡ copies_of (length (S.AnyStr.elements self.now.text)) self.now.bound }
+        ensures { result ≡ length (copies_spread S.AnyStr.elements self.now) }
+    {
+        self.text.bytes_len() as u64 + copies * self.to.bytes_len() as u64
+    }
+
+    // Appends the text, which fits, with these copies of `to`: one before each element, and the last at the end.
+    fn spread_copies<T: AnyStrContainer>(&self, copies: u64, tray: &mut T)
+        requires count { copies ≡ copies_of (length (S.AnyStr.elements self.now.text)) self.now.bound }
+        requires fits { length (copies_spread S.AnyStr.elements self.now) ≤ length (T.AnyStrContainer.spare tray.old) }
+        ensures { Grown T.AnyStrContainer.held T.AnyStrContainer.spare (copies_spread S.AnyStr.elements self.now) tray.old tray.new }
+    {
+        // the interface of texts has no iterator over elements, only the element at an offset
+        let mut place = 0;
+        for _ in 0..copies {
+            let _ = tray.push_str(&self.to);
+            if let Some((_, len)) = self.text.element_at(place) {
+                let end = place + len;
+                let _ = tray.push_str(&self.text.get_bytes(place..end));
+                place = end;
+            }
+        }
+        let _ = tray.push_str(&self.text.get_bytes(place..self.text.bytes_len()));
+    }
+
+    // The text with `to` before each element and at the end.
+    fn replace_empty<T: AnyStrContainer>(&self, tray: &mut T) -> Result<(), Refusal>
+        ensures { OnTray (Fills (if_short (copies_spread S.AnyStr.elements self.now))) T.AnyStrContainer.held T.AnyStrContainer.spare tray.old tray.new result }
+    {
+        let copies = self.copies();
+        let needed = self.measure(copies);
+        if needed > MAX_RESULT {
+            return Err(Refusal::ResultTooLong);
+        }
+        if (tray.free() as u64) < needed {
+            return Err(Refusal::TooSmall { needed });
+        }
+        self.spread_copies(copies, tray);
+        Ok(())
+    }
+
+    // The text with `to` in place of `from`.
+    fn replace<T: AnyStrContainer>(&self, tray: &mut T) -> Result<(), Refusal>
+        ensures { OnTray (Fills (replace_of (S.AnyStr.elements self.now.text) (concat (S.AnyStr.elements self.now.from)) (concat (S.AnyStr.elements self.now.to)) self.now.bound)) T.AnyStrContainer.held T.AnyStrContainer.spare tray.old tray.new result }
+    {
+        if !self.from.is_empty() {
+            self.replace_marks(tray)
+        } else if !self.to.is_empty() {
+            self.replace_empty(tray)
+        } else {
+            tray.push_str(&self.text)
+        }
     }
 }
 
@@ -130,13 +114,20 @@ pub fn replace<S: AnyStr, T: AnyStrContainer>(
     maxcount: OptionalArg<i64>,
     tray: &mut T,
 ) -> Result<(), Refusal>
-    ensures filled { Fills (replace_of (S.AnyStr.elements text.now) (concat (S.AnyStr.elements from.now)) (concat (S.AnyStr.elements to.now)) (bound_of maxcount)) (T.AnyStrContainer.held tray.old) (T.AnyStrContainer.spare tray.old) (T.AnyStrContainer.held tray.new) (T.AnyStrContainer.spare tray.new) result }
+    ensures filled { OnTray (Fills (replace_of (S.AnyStr.elements text.now) (concat (S.AnyStr.elements from.now)) (concat (S.AnyStr.elements to.now)) (bound_of maxcount))) T.AnyStrContainer.held T.AnyStrContainer.spare tray.old tray.new result }
     ensures law { ReplaceLaw (S.AnyStr.elements text.now) (concat (S.AnyStr.elements from.now)) (concat (S.AnyStr.elements to.now)) (bound_of maxcount) }
 {
-    match maxcount {
-        OptionalArg::Present(count) if count == 0 => tray.push_str(text),
-        OptionalArg::Present(count) if count > 0 => replace_bounded(text, from, to, count, tray),
-        OptionalArg::Present(_) => replace_bounded(text, from, to, UNBOUNDED, tray),
-        OptionalArg::Missing => replace_bounded(text, from, to, UNBOUNDED, tray),
-    }
+    let bound = match maxcount {
+        OptionalArg::Present(count) if count == 0 => return tray.push_str(text),
+        OptionalArg::Present(count) if count > 0 => count,
+        OptionalArg::Present(_) => UNBOUNDED,
+        OptionalArg::Missing => UNBOUNDED,
+    };
+    let replacement = Replacement {
+        text: *text,
+        from: *from,
+        to: *to,
+        bound,
+    };
+    replacement.replace(tray)
 }

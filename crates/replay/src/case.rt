@@ -1,26 +1,28 @@
 // What a line asks.
 use anystr::place::Place;
+use finds::either::Either;
+use lines::SplitLinesArgs;
 
-// A kind of text.
+// The end of a text that a method begins at.
 #[derive(Clone, Copy)]
-pub enum KindName {
-    Bytes,
-    Text,
+pub enum End {
+    Front,
+    Back,
 }
 
 #[derive(Drop)]
 pub struct Split {
+    pub end: End,
     pub text: Vec<u8>,
     pub sep: Option<Vec<u8>>,
     pub maxsplit: i64,
     pub room: usize,
-    pub from_end: bool,
 }
 
 #[derive(Drop)]
 pub struct SplitLines {
     pub text: Vec<u8>,
-    pub keepends: bool,
+    pub args: SplitLinesArgs,
     pub room: usize,
 }
 
@@ -50,8 +52,7 @@ pub struct Element {
 #[derive(Drop)]
 pub struct Part {
     pub text: Vec<u8>,
-    pub start: usize,
-    pub end: usize,
+    pub place: Place,
 }
 
 // What a searcher looks for.
@@ -98,25 +99,10 @@ pub enum Question {
     Search(Search),
 }
 
-// What find looks for.
-#[derive(Drop)]
-pub enum Sub {
-    Bytes(Vec<u8>),
-    Number(i64),
-}
-
-#[derive(Clone, Copy)]
-pub enum FindName {
-    Find,
-    Rfind,
-    Count,
-}
-
 #[derive(Drop)]
 pub struct Find {
-    pub name: FindName,
     pub text: Vec<u8>,
-    pub sub: Sub,
+    pub sub: Either<Vec<u8>, i64>,
     pub start: Option<i64>,
     pub end: Option<i64>,
 }
@@ -138,8 +124,13 @@ pub struct Maketrans {
 
 #[derive(Drop)]
 pub enum Case {
-    OfKind(KindName, Question),
+    // of a text of bytes
+    Bytes(Question),
+    // of a text of characters
+    Text(Question),
     Find(Find),
+    Rfind(Find),
+    Count(Find),
     Translate(Translate),
     Maketrans(Maketrans),
 }

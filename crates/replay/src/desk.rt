@@ -1,53 +1,65 @@
-// The memory that methods fill, kept from line to line.
+// Where answers are made: the page, and the memory that methods fill.
+use super::fault::Fault;
+use super::page::write_bytes;
 use anystr::place::Place;
-use std::alloc::Global;
+use anystr::refusal::Refusal;
+use std::alloc::{AllocError, Global};
 use trays::buffer::Buffer;
 
-// What an entry of a list has before a piece is written into it.
-const BLANK: Place = Place { start: 0, end: 0 };
-
-// Bytes for a tray and entries for a list of places. Want of memory is kept until the answer is asked for.
+// The page that an answer is written on, bytes for a tray and entries for a list of places, all kept from line to
+// line.
 #[derive(Drop)]
 pub struct Desk {
+    pub page: String,
     bytes: Vec<u8>,
     places: Vec<Place>,
-    short: bool,
+}
+
+// The first `room` items of a list that grows where it is shorter.
+fn lend<T: Copy + Default>(items: &mut Vec<T>, room: usize) -> Result<&mut [T], AllocError> {
+    if items.len() < room {
+        items.resize(room, T::default())?;
+    }
+    Ok(&mut items[..room])
 }
 
 impl Desk {
     pub fn new(heap: Global) -> Desk {
         Desk {
+            page: String::new(heap),
             bytes: Vec::new(heap),
             places: Vec::new(heap),
-            short: false,
         }
     }
 
-    // Whether there was too little memory.
-    pub fn is_short(&self) -> bool {
-        self.short
+    // Writes a word and what `fill` puts into a tray with so many free bytes.
+    pub(super) fn fill<F: FnOnce(&mut Buffer<'_>) -> Result<(), Refusal>>(
+        &mut self,
+        word: &str,
+        room: usize,
+        fill: F,
+    ) -> Result<(), Fault>
+        requires { F.IsAlwaysCallable fill }
+    {
+        let mut tray = Buffer::new(lend(&mut self.bytes, room)?);
+        fill(&mut tray)?;
+        Ok(write_bytes(word, tray.as_bytes(), &mut self.page)?)
     }
 
-    // A tray with so many free bytes.
-    pub fn tray(&mut self, room: usize) -> Buffer<'_> {
-        if self.bytes.len() < room && self.bytes.resize(room, 0).is_err() {
-            self.short = true;
+    // Writes the places that `list` puts into a list of so many, as many as it says.
+    pub(super) fn list<F: FnOnce(&mut [Place]) -> Result<usize, Refusal>>(
+        &mut self,
+        room: usize,
+        list: F,
+    ) -> Result<(), Fault>
+        requires { F.IsAlwaysCallable list }
+    {
+        let places = lend(&mut self.places, room)?;
+        let n = list(places)?;
+        write!(self.page, "places {n}")?;
+        for place in places.iter().take(n) {
+            write!(self.page, " {}-{}", place.start, place.end)?;
         }
-        let end = room.min(self.bytes.len());
-        Buffer::new(&mut self.bytes[0..end])
-    }
-
-    // A list of so many places.
-    pub fn list(&mut self, room: usize) -> &mut [Place] {
-        if self.places.len() < room && self.places.resize(room, BLANK).is_err() {
-            self.short = true;
-        }
-        let end = room.min(self.places.len());
-        &mut self.places[0..end]
-    }
-
-    // The places that were listed, and those that were there before.
-    pub fn places(&self) -> &[Place] {
-        self.places.as_slice()
+        Ok(())
     }
 }

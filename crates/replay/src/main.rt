@@ -3,12 +3,11 @@
 
 mod case;
 mod desk;
-mod digits;
+mod fault;
 mod fills;
 mod kind;
 mod line;
 mod lists;
-mod names;
 mod offsets;
 mod page;
 mod read;
@@ -16,6 +15,7 @@ mod searches;
 mod session;
 mod texts;
 mod trouble;
+mod word;
 
 use session::Session;
 use std::io::{BufRead, BufReader, BufWriter, Write};
@@ -24,7 +24,7 @@ use trouble::Trouble;
 
 fn replay(rt: &HostRuntime, session: &mut Session, out: &mut impl Write) -> Result<(), Trouble> {
     for line in BufReader::new(rt.alloc(), rt.stdin())?.split(rt.alloc(), b'\n') {
-        out.write_all(session.answer(line?.as_slice())?)?;
+        out.write_all(session.answer(line?.as_slice())?.as_bytes())?;
     }
     out.flush()?;
     Ok(())

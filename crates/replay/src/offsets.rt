@@ -1,33 +1,40 @@
 // Answers that are an offset or a number.
-use super::case::{Find, FindName, Sub};
-use super::page::Page;
+use super::case::Find;
+use super::fault::Fault;
 use anystr::bytes::Bytes;
-use bytesinner::{count, find, rfind};
+use anystr::refusal::Refusal;
+use bytesinner::count;
 use finds::either::Either;
 use finds::options::ByteInnerFindOptions;
 
 fn options(case: &Find) -> ByteInnerFindOptions<'_> {
     ByteInnerFindOptions {
         sub: match &case.sub {
-            Sub::Bytes(bytes) => Either::A(bytes.as_slice()),
-            Sub::Number(number) => Either::B(*number),
+            Either::A(bytes) => Either::A(bytes.as_slice()),
+            Either::B(number) => Either::B(*number),
         },
         start: case.start,
         end: case.end,
     }
 }
 
-// Where a byte string or a byte stands, or how often.
-pub fn add_find(case: &Find, page: &mut Page) {
-    let bytes = case.text.as_slice();
-    if let Err(refusal) = Bytes::check(bytes) {
-        return page.add_refusal(refusal);
+// Where a byte string or a byte stands, by a method that looks for it from either end.
+pub(super) fn write_find<
+    F: FnOnce(&Bytes<'_>, ByteInnerFindOptions<'_>) -> Result<Option<usize>, Refusal>,
+>(case: &Find, page: &mut String, find: F) -> Result<(), Fault>
+    requires { F.IsAlwaysCallable find }
+{
+    let text = Bytes::try_from(case.text.as_slice())?;
+    match find(&text, options(case))? {
+        Some(offset) => write!(page, "found {offset}")?,
+        None => page.push_str("none")?,
     }
-    let text = Bytes::new(bytes);
-    let options = options(case);
-    match case.name {
-        FindName::Find => page.add_found(find(&text, options)),
-        FindName::Rfind => page.add_found(rfind(&text, options)),
-        FindName::Count => page.add_count(count(&text, options)),
-    }
+    Ok(())
+}
+
+// How often it stands there.
+pub fn write_count(case: &Find, page: &mut String) -> Result<(), Fault> {
+    let text = Bytes::try_from(case.text.as_slice())?;
+    let times = count(&text, options(case))?;
+    Ok(write!(page, "count {times}")?)
 }

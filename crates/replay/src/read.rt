@@ -1,218 +1,236 @@
 // How a line is read.
 use super::case::{
-    Case, Element, Find, FindName, Join, KindName, Maketrans, Part, Question, Replace, Request,
-    Search, Sought, Split, SplitLines, Sub, Task, Translate,
+    Case, Element, End, Find, Join, Maketrans, Part, Question, Replace, Request, Search, Sought,
+    Split, SplitLines, Task, Translate,
 };
+use super::fault::Fault;
 use super::line::Words;
-use super::names::{
-    CALLS, CASES, CaseName, KINDS, QuestionName, RequestName, SEARCHERS, SWITCHES, SearchName,
-    SoughtName,
-};
+use super::word::FromWord;
 use anystr::place::Place;
+use finds::either::Either;
+use lines::SplitLinesArgs;
+use std::alloc::Global;
 
-const NO_PLACES: &[u8; 1] = b".";
+const NO_PLACES: &str = ".";
 
-fn split(words: &mut Words<'_>, from_end: bool) -> Question {
-    Question::Split(Split {
-        text: words.bytes(),
-        sep: words.optional_bytes(),
-        maxsplit: words.integer(),
-        room: words.room(),
-        from_end,
+fn split(words: &mut Words<'_>, end: End) -> Result<Split, Fault> {
+    Ok(Split {
+        end,
+        text: words.read()?,
+        sep: words.read()?,
+        maxsplit: words.read()?,
+        room: words.room()?,
     })
 }
 
-fn splitlines(words: &mut Words<'_>) -> Question {
-    Question::SplitLines(SplitLines {
-        text: words.bytes(),
-        keepends: words.name(&SWITCHES).unwrap_or(false),
-        room: words.room(),
-    })
-}
-
-fn place(pair: &[u8], words: &mut Words<'_>) -> Place {
-    let mut ends = Words::new(pair, b'-', words.heap);
-    let place = Place {
-        start: ends.natural(),
-        end: ends.natural(),
-    };
-    words.close(&ends);
-    place
-}
-
-fn places(words: &mut Words<'_>) -> Vec<Place> {
-    let mut places = Vec::new(words.heap);
-    let word = words.word();
-    if word == NO_PLACES.as_slice() {
-        return places;
-    }
-    for pair in Words::new(word, b',', words.heap) {
-        let place = place(pair, words);
-        words.push(&mut places, place);
-    }
-    places
-}
-
-fn join(words: &mut Words<'_>) -> Question {
-    Question::Join(Join {
-        sep: words.bytes(),
-        text: words.bytes(),
-        places: places(words),
-        room: words.room(),
-    })
-}
-
-fn replace(words: &mut Words<'_>) -> Question {
-    Question::Replace(Replace {
-        text: words.bytes(),
-        from: words.bytes(),
-        to: words.bytes(),
-        maxcount: words.optional_integer(),
-        room: words.room(),
-    })
-}
-
-fn element(words: &mut Words<'_>) -> Question {
-    Question::Element(Element {
-        text: words.bytes(),
-        offset: words.natural(),
-    })
-}
-
-fn part(words: &mut Words<'_>) -> Question {
-    Question::Part(Part {
-        text: words.bytes(),
-        start: words.natural(),
-        end: words.natural(),
-    })
-}
-
-// What a searcher looks for; line ends stand for what cannot be read.
-fn sought(words: &mut Words<'_>) -> Sought {
-    let mut parts = words.parts(b':');
-    let sought = match parts.name(&SEARCHERS) {
-        Some(SoughtName::Substring) => Sought::Substring(parts.bytes()),
-        Some(SoughtName::Set) => Sought::Set(parts.bytes()),
-        Some(SoughtName::LineEnds) | None => Sought::LineEnds,
-    };
-    words.close(&parts);
-    sought
-}
-
-// A call on a cutter; the rest stands for what cannot be read.
-fn request(parts: &mut Words<'_>) -> Request {
-    match parts.name(&CALLS) {
-        Some(RequestName::Next) => Request::Next,
-        Some(RequestName::Skip) => Request::Skip(parts.natural() as u64),
-        Some(RequestName::Pour) => Request::Pour {
-            to: parts.bytes(),
-            room: parts.room(),
+fn splitlines(words: &mut Words<'_>) -> Result<SplitLines, Fault> {
+    Ok(SplitLines {
+        text: words.read()?,
+        args: SplitLinesArgs {
+            keepends: words.read()?,
         },
-        Some(RequestName::Rest) | None => Request::Rest,
+        room: words.room()?,
+    })
+}
+
+impl FromWord for Place {
+    fn from_word(word: &str, heap: Global) -> Result<Place, Fault> {
+        let mut ends = Words::new(word, '-', heap);
+        let start = ends.read()?;
+        let end = ends.read()?;
+        ends.finish()?;
+        Ok(Place { start, end })
     }
 }
 
-// The calls on a cutter: all the words that are left.
-fn requests(words: &mut Words<'_>) -> Vec<Request> {
-    let mut requests = Vec::new(words.heap);
-    for word in words.take_rest() {
-        let mut parts = Words::new(word, b':', words.heap);
-        let request = request(&mut parts);
-        words.close(&parts);
-        words.push(&mut requests, request);
-    }
-    requests
-}
-
-fn first(words: &mut Words<'_>) -> Task {
-    Task::First {
-        from: words.natural(),
+impl FromWord for Vec<Place> {
+    fn from_word(word: &str, heap: Global) -> Result<Vec<Place>, Fault> {
+        if word == NO_PLACES {
+            return Ok(Vec::new(heap));
+        }
+        Words::new(word, ',', heap).rest()
     }
 }
 
-fn last(words: &mut Words<'_>) -> Task {
-    Task::Last {
-        before: words.natural(),
-    }
+fn join(words: &mut Words<'_>) -> Result<Join, Fault> {
+    Ok(Join {
+        sep: words.read()?,
+        text: words.read()?,
+        places: words.read()?,
+        room: words.room()?,
+    })
 }
 
-fn cut(words: &mut Words<'_>) -> Task {
-    Task::Cut {
-        bound: words.integer(),
-        requests: requests(words),
-    }
+fn replace(words: &mut Words<'_>) -> Result<Replace, Fault> {
+    Ok(Replace {
+        text: words.read()?,
+        from: words.read()?,
+        to: words.read()?,
+        maxcount: words.read()?,
+        room: words.room()?,
+    })
 }
 
-fn search(words: &mut Words<'_>, name: SearchName) -> Question {
-    Question::Search(Search {
-        text: words.bytes(),
-        sought: sought(words),
-        task: match name {
-            SearchName::Mark => first(words),
-            SearchName::Rmark => last(words),
-            SearchName::Cutter => cut(words),
+fn element(words: &mut Words<'_>) -> Result<Element, Fault> {
+    Ok(Element {
+        text: words.read()?,
+        offset: words.read()?,
+    })
+}
+
+fn part(words: &mut Words<'_>) -> Result<Part, Fault> {
+    Ok(Part {
+        text: words.read()?,
+        place: Place {
+            start: words.read()?,
+            end: words.read()?,
         },
     })
 }
 
-fn question(words: &mut Words<'_>, name: QuestionName) -> Question {
+impl FromWord for Sought {
+    fn from_word(word: &str, heap: Global) -> Result<Sought, Fault> {
+        let mut parts = Words::new(word, ':', heap);
+        let sought = match parts.word()? {
+            "sub" => Sought::Substring(parts.read()?),
+            "set" => Sought::Set(parts.read()?),
+            "lines" => Sought::LineEnds,
+            _ => return Err(Fault::NoCase),
+        };
+        parts.finish()?;
+        Ok(sought)
+    }
+}
+
+impl FromWord for Request {
+    fn from_word(word: &str, heap: Global) -> Result<Request, Fault> {
+        let mut parts = Words::new(word, ':', heap);
+        let request = match parts.word()? {
+            "next" => Request::Next,
+            "skip" => Request::Skip(parts.read()?),
+            "rest" => Request::Rest,
+            "pour" => Request::Pour {
+                to: parts.read()?,
+                room: parts.room()?,
+            },
+            _ => return Err(Fault::NoCase),
+        };
+        parts.finish()?;
+        Ok(request)
+    }
+}
+
+fn first(words: &mut Words<'_>) -> Result<Task, Fault> {
+    Ok(Task::First {
+        from: words.read()?,
+    })
+}
+
+fn last(words: &mut Words<'_>) -> Result<Task, Fault> {
+    Ok(Task::Last {
+        before: words.read()?,
+    })
+}
+
+// All the words that are left are calls.
+fn cut(words: &mut Words<'_>) -> Result<Task, Fault> {
+    Ok(Task::Cut {
+        bound: words.read()?,
+        requests: words.rest()?,
+    })
+}
+
+// A search with the task that `task` reads.
+fn search<F: FnOnce(&mut Words<'_>) -> Result<Task, Fault>>(
+    words: &mut Words<'_>,
+    task: F,
+) -> Result<Search, Fault>
+    requires { F.IsAlwaysCallable task }
+{
+    Ok(Search {
+        text: words.read()?,
+        sought: words.read()?,
+        task: task(words)?,
+    })
+}
+
+fn question(words: &mut Words<'_>, name: &str) -> Result<Question, Fault> {
     match name {
-        QuestionName::Split => split(words, false),
-        QuestionName::Rsplit => split(words, true),
-        QuestionName::SplitLines => splitlines(words),
-        QuestionName::Join => join(words),
-        QuestionName::Replace => replace(words),
-        QuestionName::Element => element(words),
-        QuestionName::Part => part(words),
-        QuestionName::Search(name) => search(words, name),
+        "split" => Ok(Question::Split(split(words, End::Front)?)),
+        "rsplit" => Ok(Question::Split(split(words, End::Back)?)),
+        "splitlines" => Ok(Question::SplitLines(splitlines(words)?)),
+        "join" => Ok(Question::Join(join(words)?)),
+        "replace" => Ok(Question::Replace(replace(words)?)),
+        "element" => Ok(Question::Element(element(words)?)),
+        "getbytes" => Ok(Question::Part(part(words)?)),
+        "mark" => Ok(Question::Search(search(words, first)?)),
+        "rmark" => Ok(Question::Search(search(words, last)?)),
+        "cutter" => Ok(Question::Search(search(words, cut)?)),
+        _ => Err(Fault::NoCase),
     }
 }
 
-fn sub(words: &mut Words<'_>) -> Sub {
-    match words.word() {
-        word @ [b'x', ..] => Sub::Bytes(words.bytes_of(word)),
-        word => Sub::Number(words.integer_of(word)),
+// What find looks for: a byte string or a number.
+impl FromWord for Either<Vec<u8>, i64> {
+    fn from_word(word: &str, heap: Global) -> Result<Either<Vec<u8>, i64>, Fault> {
+        if word.starts_with('x') {
+            Ok(Either::A(FromWord::from_word(word, heap)?))
+        } else {
+            Ok(Either::B(FromWord::from_word(word, heap)?))
+        }
     }
 }
 
-fn find(words: &mut Words<'_>, name: FindName) -> Case {
-    Case::Find(Find {
-        name,
-        text: words.bytes(),
-        sub: sub(words),
-        start: words.optional_integer(),
-        end: words.optional_integer(),
+fn find(words: &mut Words<'_>) -> Result<Find, Fault> {
+    Ok(Find {
+        text: words.read()?,
+        sub: words.read()?,
+        start: words.read()?,
+        end: words.read()?,
     })
 }
 
-fn translate(words: &mut Words<'_>) -> Case {
-    Case::Translate(Translate {
-        text: words.bytes(),
-        table: words.optional_bytes(),
-        delete: words.optional_bytes(),
-        room: words.room(),
+fn translate(words: &mut Words<'_>) -> Result<Translate, Fault> {
+    Ok(Translate {
+        text: words.read()?,
+        table: words.read()?,
+        delete: words.read()?,
+        room: words.room()?,
     })
 }
 
-fn maketrans(words: &mut Words<'_>) -> Case {
-    Case::Maketrans(Maketrans {
-        from: words.bytes(),
-        to: words.bytes(),
-        room: words.room(),
+fn maketrans(words: &mut Words<'_>) -> Result<Maketrans, Fault> {
+    Ok(Maketrans {
+        from: words.read()?,
+        to: words.read()?,
+        room: words.room()?,
     })
 }
 
-fn of_kind(words: &mut Words<'_>, name: QuestionName) -> Case {
-    let kind = words.name(&KINDS).unwrap_or(KindName::Bytes);
-    Case::OfKind(kind, question(words, name))
-}
-
-// The case of a line.
-pub fn read_case(words: &mut Words<'_>) -> Case {
-    match words.name(&CASES) {
-        Some(CaseName::OfKind(name)) => of_kind(words, name),
-        Some(CaseName::Find(name)) => find(words, name),
-        Some(CaseName::Translate) => translate(words),
-        Some(CaseName::Maketrans) | None => maketrans(words),
+// What is asked of a text, whose kind stands before it.
+fn of_kind(words: &mut Words<'_>, name: &str) -> Result<Case, Fault> {
+    match words.word()? {
+        "bytes" => Ok(Case::Bytes(question(words, name)?)),
+        "text" => Ok(Case::Text(question(words, name)?)),
+        _ => Err(Fault::NoCase),
     }
+}
+
+fn case(words: &mut Words<'_>) -> Result<Case, Fault> {
+    match words.word()? {
+        "find" => Ok(Case::Find(find(words)?)),
+        "rfind" => Ok(Case::Rfind(find(words)?)),
+        "count" => Ok(Case::Count(find(words)?)),
+        "translate" => Ok(Case::Translate(translate(words)?)),
+        "maketrans" => Ok(Case::Maketrans(maketrans(words)?)),
+        name => of_kind(words, name),
+    }
+}
+
+// The case of a line; no word may be left over.
+pub fn read_case(line: &str, heap: Global) -> Result<Case, Fault> {
+    let mut words = Words::new(line, ' ', heap);
+    let case = case(&mut words)?;
+    words.finish()?;
+    Ok(case)
 }

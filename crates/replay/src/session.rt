@@ -1,51 +1,48 @@
 // Lines answered one after another.
-use super::case::{Case, KindName, Question};
+use super::case::{Case, Question};
 use super::desk::Desk;
-use super::fills::{add_join, add_maketrans, add_replace, add_translate};
+use super::fault::Fault;
+use super::fills::{write_join, write_maketrans, write_replace, write_translate};
 use super::kind::Kind;
-use super::line::{Fault, Words};
-use super::lists::{add_split, add_splitlines};
-use super::offsets::add_find;
-use super::page::Page;
+use super::lists::{write_split, write_splitlines};
+use super::offsets::{write_count, write_find};
+use super::page::settle;
 use super::read::read_case;
-use super::searches::add_search;
-use super::texts::{add_element, add_part};
+use super::searches::write_search;
+use super::texts::{write_element, write_part};
 use anystr::bytes::Bytes;
+use bytesinner::{find, rfind};
 use std::alloc::{AllocError, Global};
 use text::Text;
 
-fn add_question<'a, S: Kind<'a>>(question: &'a Question, desk: &mut Desk, page: &mut Page) {
+fn write_question<'a, S: Kind<'a>>(question: &'a Question, desk: &mut Desk) -> Result<(), Fault> {
     match question {
-        Question::Split(case) => add_split::<S>(case, desk, page),
-        Question::SplitLines(case) => add_splitlines::<S>(case, desk, page),
-        Question::Join(case) => add_join::<S>(case, desk, page),
-        Question::Replace(case) => add_replace::<S>(case, desk, page),
-        Question::Element(case) => add_element::<S>(case, page),
-        Question::Part(case) => add_part::<S>(case, page),
-        Question::Search(case) => add_search::<S>(case, desk, page),
+        Question::Split(case) => write_split::<S>(case, desk),
+        Question::SplitLines(case) => write_splitlines::<S>(case, desk),
+        Question::Join(case) => write_join::<S>(case, desk),
+        Question::Replace(case) => write_replace::<S>(case, desk),
+        Question::Element(case) => write_element::<S>(case, &mut desk.page),
+        Question::Part(case) => write_part::<S>(case, &mut desk.page),
+        Question::Search(case) => write_search::<S>(case, desk),
     }
 }
 
-fn add_case(case: &Case, desk: &mut Desk, page: &mut Page) {
+fn write_case(case: &Case, desk: &mut Desk) -> Result<(), Fault> {
     match case {
-        Case::OfKind(KindName::Bytes, question) => add_question::<Bytes>(question, desk, page),
-        Case::OfKind(KindName::Text, question) => add_question::<Text>(question, desk, page),
-        Case::Find(case) => add_find(case, page),
-        Case::Translate(case) => add_translate(case, desk, page),
-        Case::Maketrans(case) => add_maketrans(case, desk, page),
+        Case::Bytes(question) => write_question::<Bytes>(question, desk),
+        Case::Text(question) => write_question::<Text>(question, desk),
+        Case::Find(case) => write_find(case, &mut desk.page, find),
+        Case::Rfind(case) => write_find(case, &mut desk.page, rfind),
+        Case::Count(case) => write_count(case, &mut desk.page),
+        Case::Translate(case) => write_translate(case, desk),
+        Case::Maketrans(case) => write_maketrans(case, desk),
     }
 }
 
-// Reads a line and writes its answer on the page.
-fn add_line(line: &[u8], heap: Global, desk: &mut Desk, page: &mut Page) {
-    let mut words = Words::new(line, b' ', heap);
-    let case = read_case(&mut words);
-    match words.finish() {
-        None => add_case(&case, desk, page),
-        Some(Fault::NoCase) => page.add(b"unreadable"),
-        Some(Fault::NoMemory) => page.note_shortage(),
-    }
-    page.add(b"\n");
+// Reads a line and writes its answer. No word of a case is beyond ASCII.
+fn write_line(line: &[u8], heap: Global, desk: &mut Desk) -> Result<(), Fault> {
+    let line = str::from_utf8(line).map_err(|_| Fault::NoCase)?;
+    write_case(&read_case(line, heap)?, desk)
 }
 
 // What is kept from line to line.
@@ -53,7 +50,6 @@ fn add_line(line: &[u8], heap: Global, desk: &mut Desk, page: &mut Page) {
 pub struct Session {
     heap: Global,
     desk: Desk,
-    page: Page,
 }
 
 impl Session {
@@ -61,17 +57,15 @@ impl Session {
         Session {
             heap,
             desk: Desk::new(heap),
-            page: Page::new(heap),
         }
     }
 
     // The answer to a line, with its line end; an error where there is too little memory.
-    pub fn answer(&mut self, line: &[u8]) -> Result<&[u8], AllocError> {
-        self.page.clear();
-        add_line(line, self.heap, &mut self.desk, &mut self.page);
-        if self.desk.is_short() || self.page.is_short() {
-            return Err(AllocError);
-        }
-        Ok(self.page.line())
+    pub fn answer(&mut self, line: &[u8]) -> Result<&str, AllocError> {
+        self.desk.page.clear();
+        let answered = write_line(line, self.heap, &mut self.desk);
+        settle(answered, &mut self.desk.page)?;
+        self.desk.page.push_str("\n")?;
+        Ok(self.desk.page.as_str())
     }
 }

@@ -1,5 +1,5 @@
 // Texts cut at marks, piece by piece, and poured into trays.
-use super::answers::{PASSES, Span, code};
+use super::answers::{Code, EURO, MIXED, Span, code};
 use anystr::anystr::AnyStr;
 use anystr::bytes::Bytes;
 use bytesets::byteset::ByteSet;
@@ -18,9 +18,9 @@ use trays::label::Label;
 enum Call {
     Next(Span),
     Rest(usize, usize),
-    Skip(u64, (u8, u64)),
+    Skip(u64, Code),
     // into a tray over this many of 8 dots, and the 8 bytes after it
-    Pour(usize, (u8, u64), &'static [u8]),
+    Pour(usize, Code, &'static [u8]),
 }
 
 type Calls = &'static [Call];
@@ -28,25 +28,17 @@ type Calls = &'static [Call];
 // none of the dots is written
 const DOTS: &[u8] = b"........";
 
-const SPENT: (u8, u64) = (8, 0);
-
-// a character of 3 bytes, and a text with it at 1 and at 6
-const EURO: &[u8] = b"\xE2\x82\xAC";
-
-const MIXED: &[u8] = b"a\xE2\x82\xAC\xC3\xA9\xE2\x82\xAC";
+const SPENT: Code = Err((8, 0));
 
 fn span(piece: Option<Piece>) -> Span {
-    match piece {
-        Some(piece) => Some((piece.start, piece.end)),
-        None => None,
-    }
+    piece.map(|piece| (piece.start, piece.end))
 }
 
 fn poured<S: AnyStr, F: Searcher<S>>(
     cutter: &mut Cutter<S, F>,
     to: &S,
     free: usize,
-) -> ((u8, u64), [u8; 8]) {
+) -> (Code, [u8; 8]) {
     let mut lent = [b'.'; 8];
     let free = free.min(8);
     let mut tray = Buffer::new(&mut lent[0..free]);
@@ -73,26 +65,15 @@ fn wrong<S: AnyStr, F: Searcher<S>>(
     to: &S,
     calls: &[Call],
 ) -> Option<usize> {
-    for (i, call) in calls.iter().enumerate() {
-        if !answers(cutter, to, *call) {
-            return Some(i);
-        }
-    }
-    None
+    calls.iter().position(|call| !answers(cutter, to, *call))
 }
 
 // a text, a separator, a bound, what stands in its place, and calls
 type Run = (&'static [u8], &'static [u8], i64, &'static [u8], Calls);
 
 // The calls in both kinds of text.
-fn both(
-    rt: &impl Abort,
-    text: &'static [u8],
-    sep: &'static [u8],
-    bound: i64,
-    to: &'static [u8],
-    calls: Calls,
-) {
+fn both(rt: &impl Abort, run: &Run) {
+    let (text, sep, bound, to, calls) = *run;
     let mut bytes = Cutter::open(Bytes::new(text), Substring::new(Bytes::new(sep)), bound);
     assert_eq!(rt;
         wrong(&mut bytes, &Bytes::new(to), calls),
@@ -114,8 +95,8 @@ const SKIPS: [Run; 5] = [
         -1,
         b"+",
         &[
-            Call::Skip(3, (9, 2)),
-            Call::Skip(2, PASSES),
+            Call::Skip(3, Err((9, 2))),
+            Call::Skip(2, Ok(())),
             Call::Next(None),
             Call::Pour(8, SPENT, DOTS),
         ],
@@ -126,10 +107,10 @@ const SKIPS: [Run; 5] = [
         -1,
         b"+",
         &[
-            Call::Skip(u64::MAX, (9, 2)),
+            Call::Skip(u64::MAX, Err((9, 2))),
             Call::Rest(0, 3),
             Call::Next(Some((0, 1))),
-            Call::Skip(2, (9, 1)),
+            Call::Skip(2, Err((9, 1))),
             Call::Next(Some((2, 3))),
         ],
     ),
@@ -139,12 +120,12 @@ const SKIPS: [Run; 5] = [
         -1,
         b"+",
         &[
-            Call::Skip(0, PASSES),
-            Call::Skip(1, PASSES),
+            Call::Skip(0, Ok(())),
+            Call::Skip(1, Ok(())),
             Call::Rest(2, 3),
-            Call::Skip(1, PASSES),
-            Call::Skip(0, PASSES),
-            Call::Skip(1, (9, 0)),
+            Call::Skip(1, Ok(())),
+            Call::Skip(0, Ok(())),
+            Call::Skip(1, Err((9, 0))),
         ],
     ),
     (
@@ -153,8 +134,8 @@ const SKIPS: [Run; 5] = [
         1,
         b"+",
         &[
-            Call::Skip(3, (9, 2)),
-            Call::Skip(1, PASSES),
+            Call::Skip(3, Err((9, 2))),
+            Call::Skip(1, Ok(())),
             Call::Next(Some((2, 5))),
             Call::Next(None),
         ],
@@ -165,17 +146,17 @@ const SKIPS: [Run; 5] = [
         -1,
         b"+",
         &[
-            Call::Skip(2, (9, 1)),
+            Call::Skip(2, Err((9, 1))),
             Call::Next(Some((0, 0))),
-            Call::Skip(u64::MAX, (9, 0)),
+            Call::Skip(u64::MAX, Err((9, 0))),
         ],
     ),
 ];
 
 #[test]
 fn skips(rt: HostRuntime) {
-    for (text, sep, bound, to, calls) in &SKIPS {
-        both(&rt, *text, *sep, *bound, *to, *calls);
+    for run in &SKIPS {
+        both(&rt, run);
     }
 }
 
@@ -295,8 +276,8 @@ const PIECES: [Run; 10] = [
 
 #[test]
 fn pieces(rt: HostRuntime) {
-    for (text, sep, bound, to, calls) in &PIECES {
-        both(&rt, *text, *sep, *bound, *to, *calls);
+    for run in &PIECES {
+        both(&rt, run);
     }
 }
 
@@ -309,8 +290,8 @@ const POURS: [Run; 9] = [
         -1,
         b"-+-",
         &[
-            Call::Pour(4, (7, 5), DOTS),
-            Call::Pour(5, PASSES, b"a-+-b..."),
+            Call::Pour(4, Err((7, 5)), DOTS),
+            Call::Pour(5, Ok(()), b"a-+-b..."),
             Call::Pour(8, SPENT, DOTS),
         ],
     ),
@@ -320,8 +301,8 @@ const POURS: [Run; 9] = [
         -1,
         b"-+-",
         &[
-            Call::Pour(0, (7, 5), DOTS),
-            Call::Pour(6, PASSES, b"a-+-b..."),
+            Call::Pour(0, Err((7, 5)), DOTS),
+            Call::Pour(6, Ok(()), b"a-+-b..."),
             Call::Next(None),
             Call::Rest(3, 3),
         ],
@@ -332,9 +313,9 @@ const POURS: [Run; 9] = [
         -1,
         b"b",
         &[
-            Call::Pour(1, (7, 2), DOTS),
+            Call::Pour(1, Err((7, 2)), DOTS),
             Call::Rest(0, 3),
-            Call::Pour(2, PASSES, b"ba......"),
+            Call::Pour(2, Ok(()), b"ba......"),
         ],
     ),
     (
@@ -343,8 +324,8 @@ const POURS: [Run; 9] = [
         0,
         b"--",
         &[
-            Call::Pour(4, (7, 5), DOTS),
-            Call::Pour(5, PASSES, b"a,b,c..."),
+            Call::Pour(4, Err((7, 5)), DOTS),
+            Call::Pour(5, Ok(()), b"a,b,c..."),
         ],
     ),
     (
@@ -353,8 +334,8 @@ const POURS: [Run; 9] = [
         1,
         b"--",
         &[
-            Call::Pour(5, (7, 6), DOTS),
-            Call::Pour(8, PASSES, b"a--b,c.."),
+            Call::Pour(5, Err((7, 6)), DOTS),
+            Call::Pour(8, Ok(()), b"a--b,c.."),
         ],
     ),
     (
@@ -363,8 +344,8 @@ const POURS: [Run; 9] = [
         i64::MAX,
         b"",
         &[
-            Call::Pour(2, (7, 3), DOTS),
-            Call::Pour(3, PASSES, b"abc....."),
+            Call::Pour(2, Err((7, 3)), DOTS),
+            Call::Pour(3, Ok(()), b"abc....."),
         ],
     ),
     (
@@ -372,7 +353,7 @@ const POURS: [Run; 9] = [
         b",",
         -1,
         b"+",
-        &[Call::Pour(0, PASSES, DOTS), Call::Pour(0, SPENT, DOTS)],
+        &[Call::Pour(0, Ok(()), DOTS), Call::Pour(0, SPENT, DOTS)],
     ),
     (
         MIXED,
@@ -380,8 +361,8 @@ const POURS: [Run; 9] = [
         -1,
         b"e",
         &[
-            Call::Pour(4, (7, 5), DOTS),
-            Call::Pour(5, PASSES, b"ae\xC3\xA9e..."),
+            Call::Pour(4, Err((7, 5)), DOTS),
+            Call::Pour(5, Ok(()), b"ae\xC3\xA9e..."),
         ],
     ),
     // only the marks still to be cut are replaced
@@ -392,16 +373,16 @@ const POURS: [Run; 9] = [
         b"--",
         &[
             Call::Next(Some((0, 1))),
-            Call::Pour(5, (7, 6), DOTS),
-            Call::Pour(6, PASSES, b"b--c,d.."),
+            Call::Pour(5, Err((7, 6)), DOTS),
+            Call::Pour(6, Ok(()), b"b--c,d.."),
         ],
     ),
 ];
 
 #[test]
 fn pours(rt: HostRuntime) {
-    for (text, sep, bound, to, calls) in &POURS {
-        both(&rt, *text, *sep, *bound, *to, *calls);
+    for run in &POURS {
+        both(&rt, run);
     }
 }
 
@@ -421,7 +402,7 @@ const LINES: [(&[u8], i64, Calls); 3] = [
         b"a\r\n\nb",
         1,
         &[
-            Call::Skip(3, (9, 2)),
+            Call::Skip(3, Err((9, 2))),
             Call::Next(Some((0, 1))),
             Call::Next(Some((3, 5))),
         ],
@@ -430,8 +411,8 @@ const LINES: [(&[u8], i64, Calls); 3] = [
         b"a\r\nb\rc",
         -1,
         &[
-            Call::Pour(4, (7, 5), DOTS),
-            Call::Pour(5, PASSES, b"a|b|c..."),
+            Call::Pour(4, Err((7, 5)), DOTS),
+            Call::Pour(5, Ok(()), b"a|b|c..."),
         ],
     ),
 ];
@@ -452,8 +433,8 @@ const SETS: [(&[u8], i64, Calls); 3] = [
         b"a\r\nb",
         -1,
         &[
-            Call::Pour(3, (7, 4), DOTS),
-            Call::Pour(8, PASSES, b"a||b...."),
+            Call::Pour(3, Err((7, 4)), DOTS),
+            Call::Pour(8, Ok(()), b"a||b...."),
         ],
     ),
     (
@@ -461,7 +442,7 @@ const SETS: [(&[u8], i64, Calls); 3] = [
         -1,
         &[
             Call::Next(Some((0, 1))),
-            Call::Pour(8, PASSES, b"\xAC......."),
+            Call::Pour(8, Ok(()), b"\xAC......."),
         ],
     ),
 ];
@@ -502,7 +483,7 @@ fn other_marks(rt: HostRuntime) {
 }
 
 // Whether a label shows these bytes and no others, or refuses them whole.
-fn labels(rt: &impl Abort, bytes: &[u8], answer: (u8, u64), shown: usize) {
+fn labels(rt: &impl Abort, bytes: &[u8], answer: Code, shown: usize) {
     let mut label = Label::new();
     let mut cutter = Cutter::open(Bytes::new(bytes), LineEnds, -1);
     assert_eq!(rt; code(cutter.pour(&Bytes::new(b""), &mut label)), answer);
@@ -516,9 +497,9 @@ const LONG: [u8; 81] = [b'a'; 81];
 
 #[test]
 fn label_room(rt: HostRuntime) {
-    labels(&rt, &LONG, (7, 81), 0);
-    labels(&rt, &LONG[0..80], PASSES, 80);
-    labels(&rt, &LONG[0..79], PASSES, 79);
-    labels(&rt, b"a", PASSES, 1);
-    labels(&rt, b"", PASSES, 0);
+    labels(&rt, &LONG, Err((7, 81)), 0);
+    labels(&rt, &LONG[0..80], Ok(()), 80);
+    labels(&rt, &LONG[0..79], Ok(()), 79);
+    labels(&rt, b"a", Ok(()), 1);
+    labels(&rt, b"", Ok(()), 0);
 }

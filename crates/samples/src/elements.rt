@@ -1,5 +1,5 @@
 // Elements and stretches of `a\u{e9}\u{20ac}\u{1d11e}`, whose characters take 1, 2, 3 and 4 bytes.
-use super::answers::{PASSES, code};
+use super::answers::code;
 use anystr::anystr::AnyStr;
 use anystr::bytes::Bytes;
 use std::process::Abort;
@@ -55,10 +55,9 @@ fn cuts<S: AnyStr>(
     end: usize,
     part: Option<&[u8]>,
 ) {
-    let answer = if part.is_some() { PASSES } else { (12, 0) };
     assert_eq!(rt;
         code(text.check_bytes(start..end)),
-        answer,
+        part.map(|_| ()).ok_or((12, 0)),
         "{kind} {start} {end}"
     );
     assert_eq!(rt;

@@ -16,4 +16,6 @@ mod line_ends;
 #[cfg(test)]
 mod needles;
 #[cfg(test)]
+mod plays;
+#[cfg(test)]
 mod sets;

@@ -65,10 +65,8 @@ fn from_the_front<S: AsciiStr>(rt: &impl Abort, kind: &str, text: &S, lines: &[L
     let bytes = text.as_bytes();
     let mut start = 0;
     for (line, piece) in lines {
-        let (stop, end) = match LineEnds.find(text, start) {
-            Some(mark) => (mark.start, mark.end),
-            None => (text.bytes_len(), text.bytes_len()),
-        };
+        let last = (text.bytes_len(), text.bytes_len());
+        let (stop, end) = found(&LineEnds, text, start).unwrap_or(last);
         assert_eq!(rt;
             text.get_bytes(start..stop).as_bytes(),
             *line,
@@ -94,10 +92,7 @@ fn from_the_back<S: AsciiStr>(rt: &impl Abort, kind: &str, text: &S, lines: &[Li
             Some(mark) if mark.end == end => mark.start,
             _ => end,
         };
-        let start = match LineEnds.rfind(text, stop) {
-            Some(mark) => mark.end,
-            None => 0,
-        };
+        let start = LineEnds.rfind(text, stop).map_or(0, |mark| mark.end);
         assert_eq!(rt;
             text.get_bytes(start..stop).as_bytes(),
             *line,

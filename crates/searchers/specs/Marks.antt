@@ -1,5 +1,5 @@
 -- The marks of a text, as a searcher means them. Assumes nothing.
-use Rattle.std.specs.Prelude.{◌≡◌, ℕ, ◌<◌, ◌≤◌, Bool, T, List, Some, None, Option}
+use Rattle.std.specs.Prelude.{◌≡◌, ℕ, zero, suc, ◌<◌, ◌≤◌, Bool, T, List, Some, None, Option}
 use Rattle.anystr.specs.Elements.{Boundary}
 use Rattle.searchers.specs.declared.mark.Mark.{Mark}
 
@@ -52,3 +52,12 @@ FindsBack marks before (Some m) = Greatest marks before m.start m.end
 abbrev pub OnBoundaries : List (List ℕ) → Option Mark → Type 0
 OnBoundaries es None = Unit {0}
 OnBoundaries es (Some m) = Boundary es m.start × Boundary es m.end
+
+-- every mark lies on boundaries
+abbrev pub Bounded : List (List ℕ) → Marks → Type 0
+Bounded es marks = (a e : ℕ) → T (marks a e) → Boundary es a × Boundary es e
+
+-- n marks are cut from `from` on, each the first that begins at or after the end of the one before, and then none is left
+abbrev pub CutTimes : Marks → (from n : ℕ) → Type 0
+CutTimes marks from zero = NoneFrom marks from
+CutTimes marks from (suc n) = (a e : ℕ) × Least marks from a e × CutTimes marks e n

@@ -2,6 +2,7 @@
 #![tactic(auto)]
 
 pub mod ascii;
+pub mod count;
 pub mod mark;
 pub mod scan;
 pub mod searcher;

@@ -24,26 +24,23 @@ pub trait Pattern {
 pub fn first_mark<P: Pattern>(pattern: &P, bytes: &[u8], from: usize) -> Option<Mark>
     ensures { Finds (P.Pattern.marks pattern.now bytes.now) from result }
 {
-    let mut start = from;
-    while start < bytes.len() {
+    for start in from..bytes.len() {
         if let Some(end) = pattern.mark_from(bytes, start) {
             return Some(Mark { start, end });
         }
-        start += 1;
     }
     None
 }
 
-// The mark with the greatest end at or before `before`.
+// The mark with the greatest end at or before `before`. Not one function with the first: it asks the pattern another
+// question, of other offsets.
 pub fn last_mark<P: Pattern>(pattern: &P, bytes: &[u8], before: usize) -> Option<Mark>
     ensures { FindsBack (P.Pattern.marks pattern.now bytes.now) before result }
 {
-    let mut end = before.min(bytes.len());
-    while end > 0 {
+    for end in (1..=before.min(bytes.len())).rev() {
         if let Some(start) = pattern.mark_to(bytes, end) {
             return Some(Mark { start, end });
         }
-        end -= 1;
     }
     None
 }

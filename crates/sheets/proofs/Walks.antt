@@ -5,7 +5,7 @@ use Rattle.std.proofs.lemmas.List.{append-nil, take_more, drop_more, take_all, t
 use Rattle.std.proofs.lemmas.Bool.{cond-true, cond-false, le-leb, ne_eqb, cases_lt}
 use Rattle.anystr.specs.Elements.{offset, element_at, Filled}
 use Rattle.anystr.proofs.Begins.{filled_at, begins}
-use Rattle.anystr.proofs.Parts.{concat-append}
+use Rattle.std.proofs.lemmas.List.Folds.{concat-append}
 use Rattle.sheets.specs.Shown.{shown, shown_element}
 
 pub shown-append : (xs ys : List (List ℕ)) → shown (xs ++ ys) ≡ shown xs ++ shown ys

@@ -7,28 +7,27 @@ use std::alloc::AllocError;
 
 const DIGIT: u8 = 16;
 
-// A hexadecimal digit.
+// A hexadecimal digit, as a byte: what the library has gives an optional `char`.
 fn hex_digit(n: u8) -> u8
     requires { n < 16 }
     ensures { result ≡ hex n }
 {
-    if n < 10 { b'0' + n } else { b'a' - 10 + n }
+    match n {
+        0..=9 => b'0' + n,
+        _ => b'a' - 10 + n,
+    }
 }
 
 // Adds a byte that is an element by itself.
 fn add_byte(out: &mut Vec<u8>, b: u8) -> Result<(), AllocError>
     ensures { OnOk result (out.new.items ≡ out.old.items ++ shown_byte b) }
 {
-    if b == b'\t' {
-        return out.extend_from_slice(b"\\t");
+    match b {
+        b'\t' => out.extend_from_slice(b"\\t"),
+        b'\\' => out.extend_from_slice(b"\\\\"),
+        b' '..=b'~' => out.extend_from_slice(&[b]),
+        _ => out.extend_from_slice(&[b'\\', b'x', hex_digit(b / DIGIT), hex_digit(b % DIGIT)]),
     }
-    if b == b'\\' {
-        return out.extend_from_slice(b"\\\\");
-    }
-    if 0x20 <= b && b < 0x7F {
-        return out.extend_from_slice(&[b]);
-    }
-    out.extend_from_slice(&[b'\\', b'x', hex_digit(b / DIGIT), hex_digit(b % DIGIT)])
 }
 
 // Adds an element: a character beyond ASCII as it is.
@@ -46,6 +45,7 @@ pub fn add_text<S: AnyStr>(out: &mut Vec<u8>, text: &S) -> Result<(), AllocError
     ensures { OnOk result (out.new.items ≡ out.old.items ++ shown (S.AnyStr.elements text.now)) }
 {
     let bytes = text.as_bytes();
+    // the interface of texts has no iterator over elements, only the element at an offset
     let mut start = 0;
     while let Some((_, len)) = text.element_at(start) {
         let end = start + len;

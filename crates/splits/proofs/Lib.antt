@@ -1,4 +1,2 @@
-pub mod Rooms
-pub mod Spent
 pub mod Laws
 pub mod Turned

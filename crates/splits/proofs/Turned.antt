@@ -1,5 +1,5 @@
 -- A list of places that is turned round.
-use Rattle.std.proofs.Common.{◌≡◌, ℕ, ◌-◌, ◌<◌, List, [], ◌∷◌, ◌++◌, map, reverse, length, take, drop, ℤ, Ok, Err, Result, sym, refl, ap, ◌∙◌, arith}
+use Rattle.std.proofs.Common.{◌≡◌, ℕ, ◌<◌, List, [], ◌∷◌, ◌++◌, map, reverse, length, take, drop, ℤ, Ok, Err, Result, sym, refl, ap, ◌∙◌, arith}
 use mathlib.Core.List.{reverse-cons}
 use Rattle.std.specs.List.{concat}
 use Rattle.std.proofs.lemmas.List.{map_push, length-map, length-reverse, take_at, drop_at}
@@ -44,16 +44,14 @@ accepted [] qs list list' r some h = absurd (omega arith)
 accepted (b ∷ bs) qs list list' r some h = h
 
 -- the first n places are turned round
-pub turned-listed : (qs : List Span) (list list' front : List Place) (n : ℕ) → Lists (Ok qs) list list' (Ok n) → front ≡ reverse (take (n - 0) list') → Lists (Ok (reverse qs)) list (front ++ drop (n - 0) list') (Ok n)
+pub turned-listed : (qs : List Span) (list list' front : List Place) (n : ℕ) → Lists (Ok qs) list list' (Ok n) → front ≡ reverse (take n list') → Lists (Ok (reverse qs)) list (front ++ drop n list') (Ok n)
 turned-listed qs list list' front n h is =
-    let zero : n - 0 ≡ n = omega arith in
-    let turned : front ≡ reverse (take n list') = is ∙ ap (λ (k : ℕ). reverse (take k list')) zero in
-    let long : length front ≡ n = ap length turned ∙ (length-reverse (take n list') ∙ (sym (length-map (take n list') stretch) ∙ (ap length h.2 ∙ sym h.0))) in
+    let long : length front ≡ n = ap length is ∙ (length-reverse (take n list') ∙ (sym (length-map (take n list') stretch) ∙ (ap length h.2 ∙ sym h.0))) in
     let same = length-reverse qs in (
       h.0 ∙ sym same,
       omega (arith, h.1),
-      ap stretches (take_at front (drop (n - 0) list') n long ∙ turned) ∙ (stretches-reverse (take n list') ∙ ap reverse h.2),
-      drop_at front (drop (n - 0) list') n long ∙ (ap (λ (k : ℕ). drop k list') zero ∙ h.3),
+      ap stretches (take_at front (drop n list') n long ∙ is) ∙ (stretches-reverse (take n list') ∙ ap reverse h.2),
+      drop_at front (drop n list') n long ∙ h.3,
     )
 
 pub turned-refused : (qs : List Span) (list list' : List Place) (e : Refusal) → Lists (Ok qs) list list' (Err e) → Lists (Ok (reverse qs)) list list' (Err e)

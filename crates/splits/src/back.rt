@@ -1,21 +1,35 @@
 // The cutter from the end: a text with its place, and a searcher that looks from the end.
-ghost use Rattle.std.specs.Prelude.{◌+◌, ◌≤◌};
+ghost use Rattle.std.specs.Prelude.{◌≡◌, ◌+◌, ◌≤◌, ⊤};
 ghost use Rattle.anystr.specs.Limits.{most_bytes};
 
 use anystr::anystr::AnyStr;
+use cutters::progress::Progress;
 use searchers::searcher::ReverseSearcher;
+use std::alloc::AllocError;
 
 pub mod calls;
 
 // A text that is cut at the marks of a searcher from the end, while fewer cuts are made than the bound.
-// The rest is the text before the place; a spent cutter has given its last piece.
+// The rest is the text before the place; a spent cutter has given its last piece. A type beside `Cutter`, with its
+// progress: it asks another sort of searcher by another method, and each piece lies before the place.
 #[derive(Drop)]
 pub struct BackCutter<S: AnyStr, F: ReverseSearcher<S>> {
     text: S,
     searcher: F,
     bound: i64,
-    place: usize,
-    made: u64,
-    spent: bool,
-    ghost few: { made + place ≤ most_bytes },
+    progress: Progress,
+    ghost few: { progress.made + progress.place ≤ most_bytes },
 }
+
+// Not derived: Rattle derives no clone of a struct with a ghost field whose parameters may be no copies.
+impl<S: AnyStr, F: ReverseSearcher<S> + Copy> Clone for BackCutter<S, F> {
+    ghost is_clone = { λ c d. d ≡ c };
+
+    ghost is_infallible = { λ _. ⊤ };
+
+    fn clone(&self) -> Result<BackCutter<S, F>, AllocError> {
+        Ok(*self)
+    }
+}
+
+impl<S: AnyStr, F: ReverseSearcher<S> + Copy> Copy for BackCutter<S, F> {}

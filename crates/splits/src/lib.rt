@@ -2,6 +2,5 @@
 #![tactic(auto)]
 
 pub mod back;
-mod listing;
 pub mod rsplit;
 pub mod split;

@@ -4,14 +4,15 @@ ghost use Rattle.anystr.specs.Places.{Lists};
 ghost use Rattle.splits.specs.Separated.{rsplit_of, OfWritten, SplitBack, Restore, Cuttable};
 
 use super::back::BackCutter;
-use super::listing::list_pieces;
 use anystr::anystr::AnyStr;
 use anystr::place::Place;
 use anystr::refusal::Refusal;
+use pieces::fill::list;
 use substring::Substring;
 
 // Lists the places between the separators that are cut from the end, at most `maxsplit` of them, in the order of
 // the text; a negative `maxsplit` is no bound. An empty separator is refused, and then a list with too few entries.
+// Beside `split_str`: it opens the other cutter, and its contract names the cuts from the end.
 pub fn rsplit_str<S: AnyStr>(
     text: &S,
     sep: &S,
@@ -24,9 +25,10 @@ pub fn rsplit_str<S: AnyStr>(
     ensures cut { OfWritten (Cuttable (S.AnyStr.elements text.now)) places.new result }
 {
     Substring::check(sep)?;
-    let mut counted = BackCutter::open(*text, Substring::new(*sep), maxsplit);
-    let mut source = BackCutter::open(*text, Substring::new(*sep), maxsplit);
-    let n = list_pieces(&mut counted, &mut source, places)?;
-    places[0..n].reverse();
+    let n = list(
+        BackCutter::open(*text, Substring::new(*sep), maxsplit),
+        places,
+    )?;
+    places[..n].reverse();
     Ok(n)
 }

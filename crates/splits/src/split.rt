@@ -3,11 +3,11 @@ ghost use Rattle.std.specs.List.{concat};
 ghost use Rattle.anystr.specs.Places.{Lists};
 ghost use Rattle.splits.specs.Separated.{split_of, OfWritten, SplitFront, Restore, Cuttable};
 
-use super::listing::list_pieces;
 use anystr::anystr::AnyStr;
 use anystr::place::Place;
 use anystr::refusal::Refusal;
 use cutters::cutter::Cutter;
+use pieces::fill::list;
 use substring::Substring;
 
 // Lists the places between the separators that are cut from the front, at most `maxsplit` of them; a negative
@@ -24,7 +24,6 @@ pub fn split_str<S: AnyStr>(
     ensures cut { OfWritten (Cuttable (S.AnyStr.elements text.now)) places.new result }
 {
     Substring::check(sep)?;
-    let mut counted = Cutter::open(*text, Substring::new(*sep), maxsplit);
-    let mut source = Cutter::open(*text, Substring::new(*sep), maxsplit);
-    list_pieces(&mut counted, &mut source, places)
+    let cutter = Cutter::open(*text, Substring::new(*sep), maxsplit);
+    list(cutter.pieces(), places)
 }

@@ -2,7 +2,7 @@
 use Rattle.std.proofs.Common.{ℕ, ◌+◌, ◌<◌, List, length, sym, subst}
 use Rattle.std.specs.List.{concat}
 use Rattle.anystr.specs.Elements.{Boundary, Occurs}
-use Rattle.searchers.proofs.Answered.{Bounded}
+use Rattle.searchers.specs.Marks.{Bounded}
 use Rattle.substring.specs.Occurrences.{occurrence, occurrence-is}
 
 -- a text keeps an occurrence of another of its kind whole

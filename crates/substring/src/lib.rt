@@ -1,10 +1,10 @@
 // The search for a text in another of its kind.
 #![tactic(auto)]
 
-ghost use Rattle.std.specs.Prelude.{◌≡◌, ◌+◌, ◌<◌, ◌≤◌, length, drop};
+ghost use Rattle.std.specs.Prelude.{◌≡◌, ◌<◌, length};
 ghost use Rattle.std.specs.List.{concat};
 ghost use Rattle.anystr.specs.Refusals.{PassesIf};
-ghost use Rattle.substring.specs.Occurrences.{begins_with, occurrence, occurrence-lawful};
+ghost use Rattle.substring.specs.Occurrences.{occurrence, occurrence-lawful};
 
 use anystr::anystr::AnyStr;
 use anystr::refusal::Refusal;
@@ -36,6 +36,15 @@ impl<S: AnyStr> Substring<S> {
     {
         Substring { needle }
     }
+
+    // The needle's bytes, as a pattern.
+    fn pattern(&self) -> Needle<'_>
+        ensures { result.bytes.now ≡ concat (S.AnyStr.elements self.now.needle) }
+    {
+        Needle {
+            bytes: self.needle.as_bytes(),
+        }
+    }
 }
 
 // The bytes of a needle, as a pattern.
@@ -44,42 +53,25 @@ struct Needle<'a> {
     bytes: &'a [u8],
 }
 
-// Whether the needle stands in the bytes from `start` on.
-fn stands_at(bytes: &[u8], needle: &[u8], start: usize) -> bool
-    requires { start + length needle.now ≤ length bytes.now }
-    ensures { result ≡ begins_with needle.now (drop start bytes.now) }
-{
-    let end = start + needle.len();
-    &bytes[start..end] == needle
-}
-
 impl<'a> Pattern for Needle<'a> {
     ghost marks = { λ f. occurrence f.bytes.now };
 
     ghost lawful = { λ f. occurrence-lawful f.bytes.now };
 
     fn mark_from(&self, bytes: &[u8], start: usize) -> Option<usize> {
-        let n = self.bytes.len();
-        if n == 0 || bytes.len() < n || bytes.len() - n < start {
+        if self.bytes.is_empty() {
             return None;
         }
-        if stands_at(bytes, self.bytes, start) {
-            Some(start + n)
-        } else {
-            None
-        }
+        let rest = bytes.get(start..)?.strip_prefix(self.bytes)?;
+        Some(bytes.len() - rest.len())
     }
 
     fn mark_to(&self, bytes: &[u8], end: usize) -> Option<usize> {
-        let n = self.bytes.len();
-        if n == 0 || end < n || bytes.len() < end {
+        if self.bytes.is_empty() {
             return None;
         }
-        if stands_at(bytes, self.bytes, end - n) {
-            Some(end - n)
-        } else {
-            None
-        }
+        let front = bytes.get(..end)?.strip_suffix(self.bytes)?;
+        Some(front.len())
     }
 }
 
@@ -89,18 +81,12 @@ impl<S: AnyStr> Searcher<S> for Substring<S> {
     ghost lawful = { λ f es. occurrence-lawful (concat (S.AnyStr.elements f.needle)) (concat es) };
 
     fn find(&self, text: &S, from: usize) -> Option<Mark> {
-        let needle = Needle {
-            bytes: self.needle.as_bytes(),
-        };
-        first_mark(&needle, text.as_bytes(), from)
+        first_mark(&self.pattern(), text.as_bytes(), from)
     }
 }
 
 impl<S: AnyStr> ReverseSearcher<S> for Substring<S> {
     fn rfind(&self, text: &S, before: usize) -> Option<Mark> {
-        let needle = Needle {
-            bytes: self.needle.as_bytes(),
-        };
-        last_mark(&needle, text.as_bytes(), before)
+        last_mark(&self.pattern(), text.as_bytes(), before)
     }
 }

@@ -1,6 +1,4 @@
-pub mod Filled
 pub mod Partners
-pub mod Kept
-pub mod Waiting
+pub mod Done
 pub mod Counts
 pub mod Translated

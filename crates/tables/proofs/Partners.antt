@@ -1,13 +1,14 @@
 -- A table that is written from the last position of two lists to the first.
-use Rattle.std.proofs.Common.{◌≡◌, ℕ, zero, suc, ◌+◌, ◌<◌, ◌≤◌, List, [], ◌∷◌, length, get_or, drop, set, Result, sym, refl, ap, ◌∙◌, subst, ⊎_elim, arith}
+use Rattle.std.proofs.Common.{◌≡◌, ℕ, zero, suc, ◌+◌, ◌-◌, ◌<◌, ◌≤◌, List, [], ◌∷◌, length, get_or, drop, set, reverse, sym, refl, ap, ◌∙◌, arith}
 use Rattle.std.proofs.lemmas.List.FromFn.{fill_by_all, length-map-range_with_len, get_or-map-range_with_len}
-use Rattle.std.proofs.lemmas.List.{drop_all, drop_more, get_or-set_same, get_or-set_other}
-use Rattle.std.proofs.lemmas.Bool.{cond-true, cond-false, eq-eqb, ne_eqb, cases_eq}
-use Rattle.anystr.specs.declared.refusal.Refusal.{Refusal}
-use Rattle.trays.specs.Trays.{Pushed, Fills}
-use Rattle.tables.proofs.Filled.{filled-if, pushed_appends}
-use Rattle.tables.specs.Tables.{byte_values, Appends}
-use Rattle.tables.specs.Maketrans.{partner, table_from, maketrans_of, FirstAt, Entry, MapsFirst}
+use Rattle.std.proofs.lemmas.Bool.Decides.{nat_tests}
+use Rattle.std.proofs.lemmas.Grind.{get_or_default_zero}
+use Rattle.std.proofs.lemmas.List.{drop_all, drop_more, get_or-set_same, get_or-set_other, get_or-reverse, length-reverse}
+use Rattle.std.proofs.lemmas.Slice.Zip.{length-zip, get_or-zip}
+use Rattle.std.specs.List.{zip}
+use Rattle.std.proofs.lemmas.Bool.{cond-true, cond-false, eq-eqb, ne_eqb}
+use Rattle.tables.specs.Tables.{byte_values}
+use Rattle.tables.specs.Maketrans.{partner, table_from, FirstAt, Entry, MapsFirst}
 
 -- a table has the partners of every byte in the lists from a position on
 abbrev pub Partners : (table from to : List ℕ) → ℕ → Type 0
@@ -25,14 +26,29 @@ module _ (table from to : List ℕ) (i j : ℕ) (next : j ≡ i + 1) (long : len
       let t : drop i to ≡ get_or to i 0 ∷ drop j to = rw next (drop_more to i 0 in-to) in
       ap (λ xs. partner xs (drop i to) b) f ∙ ap (λ ys. partner (get_or from i 0 ∷ drop j from) ys b) t
 
-  pub partners_more : Partners (set table (get_or from i 0) (get_or to i 0)) from to i
-  partners_more b h =
-      let x = get_or from i 0 in
-      let y = get_or to i 0 in
-      ⊎_elim
-      (λ (e : b ≡ x). subst (λ k. get_or (set table x y) k 0 ≡ y) (sym e) (get_or-set_same table x y 0 (omega arith)) ∙ sym (at b ∙ cond-true _ _ _ (eq-eqb x b (sym e))))
-      (λ ne. get_or-set_other table x b y 0 ne ∙ (so_far b h ∙ sym (at b ∙ cond-false _ _ _ (ne_eqb x b (λ e. ne (sym e))))))
-      (cases_eq b x)
+  partners_more : Partners (set table (get_or from i 0) (get_or to i 0)) from to i
+  partners_more b h = grind (arith, nat_tests, at b, so_far b h, get_or-set_same table (get_or from i 0) (get_or to i 0) 0, get_or-set_other table (get_or from i 0) b (get_or to i 0) 0)
+
+-- the n-th pair of the two lists from their ends
+pair : (from to : List ℕ) (n k v : ℕ) → length from ≡ length to → n < length (zip (reverse from) (reverse to)) → (k, v) ≡ get_or (zip (reverse from) (reverse to)) n (k, v)
+    → (n < length from) × (k ≡ get_or from (length from - 1 - n) 0) × (v ≡ get_or to (length to - 1 - n) 0)
+pair from to n k v even more is =
+    let some : n < length from = omega (arith, length-zip (reverse from) (reverse to), length-reverse from) in
+    let f = length-reverse from in
+    let t = length-reverse to in
+    let both = is ∙ get_or-zip (reverse from) (reverse to) n (k, v) (omega arith) (omega arith) in (
+      some,
+      ap (λ p. p.0) both ∙ (get_or-reverse from n k some ∙ get_or_default_zero from (length from - 1 - n) k (omega arith)),
+      ap (λ p. p.1) both ∙ (get_or-reverse to n v (omega arith) ∙ get_or_default_zero to (length to - 1 - n) v (omega arith)),
+    )
+
+-- one pair more
+pub partners_turn : (table from to : List ℕ) (n m k v : ℕ) → length from ≡ length to → n < length (zip (reverse from) (reverse to)) → (k, v) ≡ get_or (zip (reverse from) (reverse to)) n (k, v) → m ≡ n + 1 → length table ≡ byte_values
+    → Partners table from to (length from - n) → Partners (set table k v) from to (length from - m)
+partners_turn table from to n m k v even more is one long so_far =
+    let p = pair from to n k v even more is in
+    let i : length from - m ≡ length from - 1 - n = omega arith in
+    rw (i, p.1, p.2, ← even) (partners_more table from to (length from - 1 - n) (length from - n) (omega arith) long (omega arith) (omega arith) so_far)
 
 -- at the first position the table is made
 pub partners_all : (table from to : List ℕ) (i : ℕ) → i ≡ 0 → length table ≡ byte_values → Partners table from to i → table ≡ table_from from to
@@ -58,12 +74,5 @@ entries from to b e h =
     let at : get_or (table_from from to) b 0 ≡ partner from to b = get_or-map-range_with_len (partner from to) 0 byte_values b b 0 h (omega arith) in
     (λ i f. at ∙ first-partner from to b i e f, λ none. at ∙ no_partner from to b none)
 
-maps_first : (from to : List ℕ) → length from ≡ length to → MapsFirst from to (table_from from to)
+pub maps_first : (from to : List ℕ) → length from ≡ length to → MapsFirst from to (table_from from to)
 maps_first from to e = (length-map-range_with_len (partner from to) 0 byte_values, λ b. entries from to b e)
-
--- a table that is pushed
-pub tabled : {X : Type 0} (from to bytes held spare held' spare' : List ℕ) (r : Result X Refusal) → length from ≡ length to → bytes ≡ table_from from to → Pushed bytes held spare held' spare' r
-    → Fills (maketrans_of from to) held spare held' spare' r × Appends held held' (MapsFirst from to) r
-tabled from to bytes held spare held' spare' r e made p =
-    let q : Pushed (table_from from to) held spare held' spare' r = subst (λ (bs : List ℕ). Pushed bs held spare held' spare' r) made p in
-    (filled-if _ _ _ held spare held' spare' r (eq-eqb (length from) (length to) e) q, pushed_appends (MapsFirst from to) (table_from from to) held spare held' spare' r (maps_first from to e) q)

@@ -1,15 +1,11 @@
 -- The result of translate. Assumes nothing.
-use Rattle.std.specs.Prelude.{◌≡◌, ℕ, ◌+◌, ◌<◌, Bool, true, cond, not, List, [], ◌∷◌, map, length, Some, None, Ok, Err, filter, Option, Result, ◌==◌, slice_index}
+use Rattle.std.specs.Prelude.{◌≡◌, ℕ, ◌<◌, Bool, true, cond, not, List, [], map, length, Some, None, Ok, Err, filter, count_by, Option, Result, ◌==◌, slice_index}
 use Rattle.anystr.specs.declared.optional.OptionalArg.{OptionalArg}
 use Rattle.anystr.specs.declared.optional.OptionalArg.TheVariants.{Present, Missing}
 use Rattle.bytesets.specs.Sets.{among}
 use Rattle.std.specs.Option.{option_map}
 use Rattle.tables.specs.declared.translate.ByteInnerTranslateOptions.{ByteInnerTranslateOptions}
 use Rattle.tables.specs.Tables.{byte_values}
-
--- the most bytes that are appended to a tray together; the code's BATCH_BYTES
-abbrev pub batch_bytes : ℕ
-batch_bytes = 256
 
 -- what a table maps a byte to; an absent table maps it to itself
 abbrev pub image : Option (List ℕ) → ℕ → ℕ
@@ -47,14 +43,19 @@ table_in options = option_map (λ t. t.now) options.table
 abbrev pub delete_in : ByteInnerTranslateOptions → OptionalArg (List ℕ)
 delete_in options = given (λ d. d.now) options.delete
 
+-- the code's table and its delete list are what options mean
+pub record Meant (options : ByteInnerTranslateOptions) (table delete : List ℕ) : Type 0 where
+  pub long : full (table_in options) ≡ true
+  pub maps : (b : ℕ) → b < byte_values → slice_index table b ≡ image (table_in options) b
+  pub goes : delete ≡ listed (delete_in options)
+
 -- each byte of a text stands in its place as a table maps it
 abbrev pub InPlace : Option (List ℕ) → (bytes added : List ℕ) → Type 0
 InPlace table bytes added = (length added ≡ length bytes) × ((i : ℕ) → i < length bytes → slice_index added i ≡ image table (slice_index bytes i))
 
 -- how often a byte stands in a text
 abbrev pub times : ℕ → List ℕ → ℕ
-times b [] = 0
-times b (x ∷ xs) = cond (b == x) 1 0 + times b xs
+times b xs = count_by (λ x. b == x) xs
 
 -- the deleted bytes are gone, and each other byte stands as often as in the text
 abbrev pub Without : (delete bytes added : List ℕ) → Type 0

@@ -1,5 +1,5 @@
 // How a table is made from two lists of bytes.
-ghost use Rattle.trays.specs.Trays.{Fills};
+ghost use Rattle.trays.specs.Trays.{Fills, OnTray};
 ghost use Rattle.tables.specs.Tables.{Appends};
 ghost use Rattle.tables.specs.Maketrans.{maketrans_of, MapsFirst};
 
@@ -17,7 +17,7 @@ pub fn maketrans<T: AnyStrContainer>(
     to: &Bytes<'_>,
     tray: &mut T,
 ) -> Result<(), Refusal>
-    ensures value { Fills (maketrans_of from.now.bytes.now to.now.bytes.now) (T.AnyStrContainer.held tray.old) (T.AnyStrContainer.spare tray.old) (T.AnyStrContainer.held tray.new) (T.AnyStrContainer.spare tray.new) result }
+    ensures value { OnTray (Fills (maketrans_of from.now.bytes.now to.now.bytes.now)) T.AnyStrContainer.held T.AnyStrContainer.spare tray.old tray.new result }
     ensures first { Appends (T.AnyStrContainer.held tray.old) (T.AnyStrContainer.held tray.new) (MapsFirst from.now.bytes.now to.now.bytes.now) result }
 {
     let keys = from.as_bytes();
@@ -27,8 +27,8 @@ pub fn maketrans<T: AnyStrContainer>(
     }
     let mut table = identity();
     // the first position of a byte is written last
-    for i in (0..keys.len()).rev() {
-        table[keys[i] as usize] = values[i];
+    for (key, value) in keys.iter().rev().zip(values.iter().rev()) {
+        table[*key as usize] = *value;
     }
     tray.push_str(&Bytes::new(&table))
 }

@@ -32,15 +32,14 @@ impl<'a> TryFrom<&'a [u8]> for Text<'a> {
         if bytes.len() > MAX_BYTES {
             return Err(Refusal::TooLong);
         }
-        match check_utf8(bytes) {
-            Ok(text) => Ok(Text { text }),
-            Err(formed) => Err(Refusal::IllFormed {
-                formed: formed as u64,
-            }),
-        }
+        let text = check_utf8(bytes).map_err(|formed| Refusal::IllFormed {
+            formed: formed as u64,
+        })?;
+        Ok(Text { text })
     }
 }
 
+// The same two lines as in `Bytes`. Provided by a trait, they could promise only what a ghost member says.
 impl<'a> Text<'a> {
     // Whether the bytes can be a text.
     pub fn check(bytes: &[u8]) -> Result<(), Refusal>
@@ -88,6 +87,7 @@ impl<'a> AnyStr for Text<'a> {
     }
 
     fn get_bytes(&self, range: Range<usize>) -> Self {
+        // not by `get`, as `Bytes` does: that of a `str` has no contract
         let Ok(()) = self.check_bytes(range.start..range.end) else {
             return Text { text: "" };
         };

@@ -1,3 +1,2 @@
-pub mod Ends
 pub mod Writes
 pub mod Pushes

@@ -1,16 +1,18 @@
 // A tray over a slice that the caller lends.
-ghost use Rattle.std.specs.Prelude.{◌≡◌, [], ◌++◌, take, drop};
+ghost use Rattle.std.specs.Prelude.{◌≡◌, ◌≤◌, [], ◌++◌, length, take, drop};
 
 use super::container::AnyStrContainer;
+use super::put::put;
 use anystr::anystr::AnyStr;
 use anystr::refusal::Refusal;
 
-// The slice's first `len` bytes are held, and the bytes past them are as the caller left them. No fact ties
-// `len` to the slice, which could then not be lent in part, so each use of it stops at the slice's end.
+// The slice's first `len` bytes are held, and the bytes past them are as the caller left them. A length beside the
+// slice, and no `Vec`: the room is the caller's, and there is no heap.
 #[derive(Drop)]
 pub struct Buffer<'a> {
     bytes: &'a mut [u8],
     len: usize,
+    ghost fits: { len ≤ length bytes.now },
 }
 
 impl<'a> Buffer<'a> {
@@ -26,8 +28,7 @@ impl<'a> Buffer<'a> {
     pub fn as_bytes(&self) -> &[u8]
         ensures { result.now ≡ take self.now.len self.now.bytes.now }
     {
-        let end = self.len.min(self.bytes.len());
-        &self.bytes[0..end]
+        &self.bytes[..self.len]
     }
 
     // The slice, given back: the bytes held, and then those past them.
@@ -45,19 +46,11 @@ impl<'a> AnyStrContainer for Buffer<'a> {
     ghost spare = { λ b. drop b.len b.bytes.now };
 
     fn free(&self) -> usize {
-        self.bytes.len().saturating_sub(self.len)
+        self.bytes.len() - self.len
     }
 
     fn push_str<S: AnyStr>(&mut self, text: &S) -> Result<(), Refusal> {
-        let bytes = text.as_bytes();
-        let n = bytes.len();
-        if n > self.free() {
-            return Err(Refusal::TooSmall { needed: n as u64 });
-        }
-        let at = self.len.min(self.bytes.len());
-        let end = at + n;
-        self.bytes[at..end].copy_from_slice(bytes);
-        self.len = end;
+        self.len = put(self.bytes, self.len, text.as_bytes())?;
         Ok(())
     }
 }

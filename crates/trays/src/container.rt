@@ -1,7 +1,7 @@
 // The interface of trays.
 ghost use Rattle.std.specs.Prelude.{◌≡◌, ℕ, List, length};
 ghost use Rattle.std.specs.List.{concat};
-ghost use Rattle.trays.specs.Trays.{Pushed};
+ghost use Rattle.trays.specs.Trays.{Pushed, OnTray};
 
 use anystr::anystr::AnyStr;
 use anystr::refusal::Refusal;
@@ -20,5 +20,5 @@ pub trait AnyStrContainer {
 
     // Appends all of a text of any kind; refused, and nothing changes, where it has more bytes than are free.
     fn push_str<S: AnyStr>(&mut self, text: &S) -> Result<(), Refusal>
-        ensures { Pushed (concat (S.AnyStr.elements text.now)) (held self.old) (spare self.old) (held self.new) (spare self.new) result };
+        ensures { OnTray (Pushed (concat (S.AnyStr.elements text.now))) held spare self.old self.new result };
 }

@@ -3,13 +3,15 @@ ghost use Rattle.std.specs.Prelude.{◌≡◌, ◌-◌, ◌≤◌, [], take, dro
 ghost use Rattle.trays.specs.Trays.{label_bytes};
 
 use super::container::AnyStrContainer;
+use super::put::put;
 use anystr::anystr::AnyStr;
 use anystr::refusal::Refusal;
 
 // The bytes of a label.
 pub const LABEL_BYTES: usize = 80;
 
-// The first `len` bytes are held, and every byte past them is zero.
+// The first `len` bytes are held, and every byte past them is zero. A length beside the bytes, and no `Vec`: a label
+// is held by value.
 #[derive(Drop)]
 pub struct Label {
     bytes: [u8; LABEL_BYTES],
@@ -34,8 +36,7 @@ impl Label {
     pub fn as_bytes(&self) -> &[u8]
         ensures { result.now ≡ take self.now.len self.now.bytes }
     {
-        let end = self.len;
-        &self.bytes[0..end]
+        &self.bytes[..self.len]
     }
 }
 
@@ -49,15 +50,7 @@ impl AnyStrContainer for Label {
     }
 
     fn push_str<S: AnyStr>(&mut self, text: &S) -> Result<(), Refusal> {
-        let bytes = text.as_bytes();
-        let n = bytes.len();
-        if n > self.free() {
-            return Err(Refusal::TooSmall { needed: n as u64 });
-        }
-        let at = self.len;
-        let end = at + n;
-        self.bytes[at..end].copy_from_slice(bytes);
-        self.len = end;
+        self.len = put(&mut self.bytes, self.len, text.as_bytes())?;
         Ok(())
     }
 }

@@ -4,3 +4,4 @@
 pub mod buffer;
 pub mod container;
 pub mod label;
+mod put;

@@ -107,14 +107,9 @@ module _ (rs : List Span) (bound : ℤ) (total a m : ℕ) (w : Wanted rs bound t
     n_is : n ≡ min total (a + 1)
     n_is = room.is ∙ w.is
 
-    module _ (len : ℕ) (f : Filled (take n (drop 0 rs)) list list') where
+    module _ (len : ℕ) (f : Filled (take n rs) list list') where
       came : Put (take n rs) n list list'
       came = put (take n rs) n list list' (length-take n rs ∙ omega (arith, n_is, w.total_is)) f
-
-      pub words_put : total ≤ a → Lists (Ok (words_of rs len bound)) list list' (Ok n)
-      words_put le =
-          let all : take n rs ≡ rs = take_all n rs (omega (arith, n_is, w.total_is)) in
-          lists (words_of rs len bound) list list' n (room.is ∙ sym (words_length len)) (omega (arith, room.is, room.fits)) (came.written ∙ all ∙ sym (words_whole len le)) came.others
 
       to_len : a < total → Lists (Ok (words_of rs len bound)) list (set list' a (record { start = (get_or list' a none).start; end = len })) (Ok n)
       to_len lt =
@@ -152,14 +147,14 @@ module _ (rs : List Span) (bound : ℤ) (total a m : ℕ) (w : Wanted rs bound t
           (drop-set-lt n list' 0 first (omega arith) ∙ came_last.others)
 
 -- what was written into the front of a list was written into the list
-pub filled-front : (xs : List Span) (n k : ℕ) (list part : List Place) → k ≡ n → n ≤ length list → length part ≡ length (take k list) → Filled (take (length (take k list)) xs) (take k list) part → Filled (take n xs) list (part ++ drop k list)
-filled-front xs n k list part same fits l f =
-    let t : length (take k list) ≡ n = length-take k list ∙ omega arith in
-    let ps : List Span = take (length (take k list)) xs in
-    let few : length ps ≤ length part = omega (arith, length-take (length (take k list)) xs) in
-    let whole : Filled ps list (part ++ drop k list) = record {
-      written = ap stretches (take-append-le (length ps) part (drop k list) few) ∙ f.written;
-      others = drop-append-le (length ps) part (drop k list) few ∙ ap (λ (ys : List Place). ys ++ drop k list) f.others ∙ sym (drop-append-le (length ps) (take k list) (drop k list) (omega arith))
-          ∙ ap (drop (length ps)) (take-append-drop k list);
+pub filled-front : (xs ys : List Span) (n : ℕ) (list part : List Place) → xs ≡ ys → n ≤ length list → length part ≡ length (take n list) → Filled (take (length (take n list)) xs) (take n list) part → Filled (take n ys) list (part ++ drop n list)
+filled-front xs ys n list part same fits l f =
+    let t : length (take n list) ≡ n = length-take n list ∙ omega arith in
+    let ps : List Span = take (length (take n list)) xs in
+    let few : length ps ≤ length part = omega (arith, length-take (length (take n list)) xs) in
+    let whole : Filled ps list (part ++ drop n list) = record {
+      written = ap stretches (take-append-le (length ps) part (drop n list) few) ∙ f.written;
+      others = drop-append-le (length ps) part (drop n list) few ∙ ap (λ (ys : List Place). ys ++ drop n list) f.others ∙ sym (drop-append-le (length ps) (take n list) (drop n list) (omega arith))
+          ∙ ap (drop (length ps)) (take-append-drop n list);
     } in
-    subst (λ (j : ℕ). Filled (take j xs) list (part ++ drop k list)) t whole
+    subst (λ (qs : List Span). Filled qs list (part ++ drop n list)) (λ i. take (t i) (same i)) whole

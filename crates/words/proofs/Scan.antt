@@ -1,9 +1,11 @@
--- The runs that are left, as a scan goes on from byte to byte.
-use Rattle.std.proofs.Common.{◌≡◌, ℕ, suc, ◌+◌, ◌<◌, ◌≤◌, true, false, ltb, List, [], ◌∷◌, ◌++◌, length, get_or, drop, sym, ap, ◌∙◌, ⊎_elim, arith}
-use Rattle.std.proofs.lemmas.List.{at_drop_more, at_drop_all}
-use Rattle.std.proofs.lemmas.Bool.{lt-ltb, le-ltb, both_ways, cases_lt, cond-true, cond-false}
+-- The runs that are left, past the whitespace at the front and past the run that follows it.
+use Rattle.std.proofs.Common.{◌≡◌, ℕ, suc, ◌+◌, ◌<◌, Bool, true, false, not, ltb, List, [], ◌∷◌, ◌++◌, length, drop, sym, refl, ap, ◌∙◌, subst, arith}
+use Rattle.std.specs.Bool.{beq}
+use Rattle.std.specs.List.{slice_range}
+use Rattle.std.proofs.lemmas.List.{drop-drop, append-nil, take_rest}
+use Rattle.std.proofs.lemmas.Bool.{lt-ltb, le-ltb, cond_both, cond-true, cond-false}
 use Rattle.searchers.specs.Marks.{Span}
-use Rattle.words.specs.Words.{space, run, runs_from}
+use Rattle.words.specs.Words.{space, stretch_len, run, runs_from}
 
 no_run : (p : ℕ) → run p p ≡ []
 no_run p = cond-false (ltb p p) _ _ (le-ltb p p (omega arith))
@@ -11,35 +13,87 @@ no_run p = cond-false (ltb p p) _ _ (le-ltb p p (omega arith))
 one_run : (a e : ℕ) → a < e → run a e ≡ (a, e) ∷ []
 one_run a e lt = cond-true (ltb a e) _ _ (lt-ltb a e lt)
 
-module _ (bytes : List ℕ) where
-  -- at whitespace the stretch under way ends
-  at-space : (from i : ℕ) → i < length bytes → space (get_or bytes i 0) ≡ true → runs_from from i (drop i bytes) ≡ run from i ++ runs_from (i + 1) (i + 1) (drop (i + 1) bytes)
-  at-space from i lt is =
-      let s : suc i ≡ i + 1 = omega arith in
-      at_drop_more (runs_from from i) bytes i 0 lt ∙ cond-true (space (get_or bytes i 0)) _ _ is ∙ ap (λ (k : ℕ). run from i ++ runs_from k k (drop (i + 1) bytes)) s
+same : (x y : Bool) → beq x y ≡ true → y ≡ x
+same true true h = refl
+same true false h = cc
+same false true h = cc
+same false false h = refl
 
-  pub over_space : (i : ℕ) → i < length bytes → space (get_or bytes i 0) ≡ true → runs_from (i + 1) (i + 1) (drop (i + 1) bytes) ≡ runs_from i i (drop i bytes)
-  over_space i lt is = sym (at-space i i lt is ∙ ap (λ (rs : List Span). rs ++ runs_from (i + 1) (i + 1) (drop (i + 1) bytes)) (no_run i))
+other : (x y : Bool) → beq x y ≡ false → y ≡ not x
+other true true h = cc
+other true false h = refl
+other false true h = refl
+other false false h = cc
 
-  pub through_run : (from i : ℕ) → i < length bytes → space (get_or bytes i 0) ≡ false → runs_from from (i + 1) (drop (i + 1) bytes) ≡ runs_from from i (drop i bytes)
-  through_run from i lt is =
-      let s : suc i ≡ i + 1 = omega arith in
-      sym (at_drop_more (runs_from from i) bytes i 0 lt ∙ cond-false (space (get_or bytes i 0)) _ _ is ∙ ap (λ (k : ℕ). runs_from from k (drop (i + 1) bytes)) s)
+-- what holds of a stretch at the front, by whether the first byte is in it
+front : (b : ℕ) (bs : List ℕ) (spaces : Bool) (P : ℕ → Type 0) → (space b ≡ spaces → P (suc (stretch_len bs spaces))) → (space b ≡ not spaces → P 0) → P (stretch_len (b ∷ bs) spaces)
+front b bs spaces P in-it past =
+    let s : suc (stretch_len bs spaces) ≡ 1 + stretch_len bs spaces = omega arith in
+    cond_both (beq spaces (space b)) (1 + stretch_len bs spaces) 0 P (λ h. subst P s (in-it (same spaces (space b) h))) (λ h. past (other spaces (space b) h))
 
-  pub none-past : (i : ℕ) → length bytes ≤ i → runs_from i i (drop i bytes) ≡ []
-  none-past i past = at_drop_all (runs_from i i) bytes i past ∙ no_run i
+-- no run ends in the whitespace at the front
+over_space : (i : ℕ) (bs : List ℕ) → runs_from i i bs ≡ runs_from (i + stretch_len bs true) (i + stretch_len bs true) (drop (stretch_len bs true) bs)
+over_space i [] = let z : i ≡ i + 0 = omega arith in ap (λ (k : ℕ). run k k) z
+over_space i (b ∷ bs) = front b bs true (λ n. runs_from i i (b ∷ bs) ≡ runs_from (i + n) (i + n) (drop n (b ∷ bs)))
+    (λ is.
+    let n = stretch_len bs true in
+    let e : suc i + n ≡ i + suc n = omega arith in
+    cond-true (space b) _ _ is ∙ (ap (λ (rs : List Span). rs ++ runs_from (suc i) (suc i) bs) (no_run i) ∙ (over_space (suc i) bs ∙ ap (λ (k : ℕ). runs_from k k (drop n bs)) e)))
+    (λ is. let z : i ≡ i + 0 = omega arith in ap (λ (k : ℕ). runs_from k k (b ∷ bs)) z)
 
-  -- where the stretch under way ends, it is the first run
-  pub ends_at : (from i : ℕ) → from < i → (i < length bytes → space (get_or bytes i 0) ≡ true) → runs_from from i (drop i bytes) ≡ (from, i) ∷ runs_from i i (drop i bytes)
-  ends_at from i lt ends = ⊎_elim
-      (λ within. at-space from i within (ends within) ∙ (λ k. one_run from i lt k ++ over_space i within (ends within) k))
-      (λ past. at_drop_all (runs_from from i) bytes i past ∙ one_run from i lt ∙ ap (λ (rs : List Span). (from, i) ∷ rs) (sym (none-past i past)))
-      (cases_lt i (length bytes))
+-- the stretch under way goes on to the next whitespace
+through_run : (from i : ℕ) (bs : List ℕ) → runs_from from i bs ≡ run from (i + stretch_len bs false) ++ runs_from (i + stretch_len bs false) (i + stretch_len bs false) (drop (stretch_len bs false) bs)
+through_run from i [] =
+    let z : i ≡ i + 0 = omega arith in
+    sym (append-nil (run from i)) ∙ ((λ k. run from i ++ sym (no_run i) k) ∙ ap (λ (k : ℕ). run from k ++ run k k) z)
+through_run from i (b ∷ bs) = front b bs false (λ n. runs_from from i (b ∷ bs) ≡ run from (i + n) ++ runs_from (i + n) (i + n) (drop n (b ∷ bs)))
+    (λ is.
+    let n = stretch_len bs false in
+    let e : suc i + n ≡ i + suc n = omega arith in
+    cond-false (space b) _ _ is ∙ (through_run from (suc i) bs ∙ ap (λ (k : ℕ). run from k ++ runs_from k k (drop n bs)) e))
+    (λ is.
+    let z : i ≡ i + 0 = omega arith in
+    let here : runs_from i i (b ∷ bs) ≡ runs_from (suc i) (suc i) bs = cond-true (space b) _ _ is ∙ ap (λ (rs : List Span). rs ++ runs_from (suc i) (suc i) bs) (no_run i) in
+    cond-true (space b) _ _ is ∙ ((λ k. run from i ++ sym here k) ∙ ap (λ (k : ℕ). run from k ++ runs_from k k (b ∷ bs)) z))
 
-  -- the first run that is left, where a scan over whitespace came to `start` and one over the rest came to `end`
-  pub first_run : (place start end : ℕ) → start < length bytes → space (get_or bytes start 0) ≡ false → start ≤ end → (end < length bytes → space (get_or bytes end 0) ≡ true)
-      → runs_from start start (drop start bytes) ≡ runs_from place place (drop place bytes) → runs_from start end (drop end bytes) ≡ runs_from start start (drop start bytes)
-      → runs_from place place (drop place bytes) ≡ (start, end) ∷ runs_from end end (drop end bytes)
-  first_run place start end lt bare le ends before after =
-      let longer : start < end = ⊎_elim (λ h. h) (λ h. let z : end ≡ start = omega arith in absurd (both_ways _ (rw (sym z) at bare) (ends (omega arith)))) (cases_lt start end) in
-      sym before ∙ sym after ∙ ends_at start end longer ends
+-- past the whitespace at the front stands something that is none, or nothing
+ends : (bs : List ℕ) → stretch_len (drop (stretch_len bs true) bs) false ≡ 0 → drop (stretch_len bs true) bs ≡ []
+ends [] = λ h. refl
+ends (b ∷ bs) = front b bs true (λ n. stretch_len (drop n (b ∷ bs)) false ≡ 0 → drop n (b ∷ bs) ≡ [])
+    (λ is. ends bs)
+    (λ is. front b bs false (λ n. n ≡ 0 → b ∷ bs ≡ []) (λ _ h. absurd (omega arith)) (λ bare h. let t : true ≡ false = sym bare ∙ is in cc))
+
+-- what a scan from an offset on finds: so many bytes of whitespace, and so many after them that are none
+pub record Scanned (bytes : List ℕ) (place passed len : ℕ) : Type 0 where
+  pub over : passed ≡ stretch_len (drop place bytes) true
+  pub through : len ≡ stretch_len (drop passed (drop place bytes)) false
+
+-- a scan of the rest, as slices of it are read
+pub scanned : {bytes : List ℕ} {place passed len : ℕ} (all rest : List ℕ) → all ≡ bytes → rest ≡ slice_range all place (length all) → passed ≡ stretch_len rest true → len ≡ stretch_len (slice_range rest passed (length rest)) false
+    → Scanned bytes place passed len
+scanned {place = place} {passed = passed} all rest same is over through =
+    let from_place = is ∙ (take_rest all place ∙ ap (drop place) same) in
+    record {
+      over = over ∙ ap (λ (bs : List ℕ). stretch_len bs true) from_place;
+      through = through ∙ ap (λ (bs : List ℕ). stretch_len bs false) (take_rest rest passed ∙ ap (drop passed) from_place);
+    }
+
+module _ (bytes : List ℕ) (place passed len : ℕ) (s : Scanned bytes place passed len) where
+  passed_over : runs_from place place (drop place bytes) ≡ runs_from (place + passed) (place + passed) (drop passed (drop place bytes))
+  passed_over = over_space place (drop place bytes) ∙ ap (λ (n : ℕ). runs_from (place + n) (place + n) (drop n (drop place bytes))) (sym s.over)
+
+  pub none_left : len ≡ 0 → runs_from place place (drop place bytes) ≡ []
+  none_left none =
+      let at_end : drop passed (drop place bytes) ≡ [] =
+      ap (λ (n : ℕ). drop n (drop place bytes)) s.over
+      ∙ ends (drop place bytes) (ap (λ (n : ℕ). stretch_len (drop n (drop place bytes)) false) (sym s.over) ∙ (sym s.through ∙ none)) in
+      passed_over ∙ (ap (runs_from (place + passed) (place + passed)) at_end ∙ no_run (place + passed))
+
+  pub first_run : 0 < len → runs_from place place (drop place bytes) ≡ (place + passed, place + passed + len) ∷ runs_from (place + passed + len) (place + passed + len) (drop (place + passed + len) bytes)
+  first_run some =
+      let start : ℕ = place + passed in
+      let end : ℕ = start + len in
+      let rest : List ℕ = drop passed (drop place bytes) in
+      let after : drop len rest ≡ drop end bytes = ap (drop len) (drop-drop passed place bytes) ∙ drop-drop len start bytes in
+      passed_over ∙ (through_run start start rest ∙ (ap (λ (n : ℕ). run start (start + n) ++ runs_from (start + n) (start + n) (drop n rest)) (sym s.through)
+      ∙ (λ k. one_run start end (omega arith) k ++ runs_from end end (after k))))

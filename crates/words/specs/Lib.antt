@@ -1,2 +1,3 @@
 pub mod Words
 pub mod Few
+pub mod Left

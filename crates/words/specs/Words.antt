@@ -1,5 +1,7 @@
 -- Words: the runs of a text between whitespace, and the lists that a bound makes of them. Assumes nothing.
 use Rattle.std.specs.Prelude.{◌≡◌, ℕ, suc, ◌-◌, ◌<◌, ◌≤◌, min, Bool, true, false, cond, List, [], ◌∷◌, ◌++◌, length, take, drop, ℤ, pos, negsuc, nat_lt, slice_index}
+use Rattle.std.specs.List.{prefix_len}
+use Rattle.std.specs.Bool.{beq}
 use Rattle.searchers.specs.Marks.{Span}
 use Rattle.bytesets.specs.Sets.{among}
 use Rattle.cuts.specs.Runs.{In}
@@ -11,6 +13,10 @@ whitespace = 32 ∷ 9 ∷ 10 ∷ 12 ∷ 13 ∷ 11 ∷ []
 -- whether a byte is whitespace
 abbrev pub space : ℕ → Bool
 space b = among whitespace b
+
+-- how many bytes at the front are whitespace, or, where `spaces` is false, are none
+abbrev pub stretch_len : List ℕ → Bool → ℕ
+stretch_len bytes spaces = prefix_len (λ b. beq spaces (space b)) bytes
 
 -- a stretch alone, or nothing where it is empty
 abbrev pub run : ℕ → ℕ → List Span

@@ -1,8 +1,11 @@
 // The runs of a text between whitespace, one after another.
-ghost use Rattle.std.specs.Prelude.{◌≡◌, ◌<◌, ◌≤◌, true, false, length, drop, slice_index};
+ghost use Rattle.std.specs.Prelude.{◌≡◌, ◌≤◌, length, refl};
+ghost use Rattle.std.specs.Iterator.{YieldsFirstBy, item_count};
 ghost use Rattle.std.specs.List.{concat};
-ghost use Rattle.words.specs.Words.{space, runs_from, runs};
+ghost use Rattle.cutters.specs.Calls.{span};
+ghost use Rattle.words.specs.Words.{space, stretch_len as stretch_of, runs};
 ghost use Rattle.words.specs.Few.{left-few};
+ghost use Rattle.words.specs.Left.{left};
 
 use anystr::anystr::AnyStr;
 use cutters::piece::Piece;
@@ -19,59 +22,58 @@ pub struct Runs<S: AnyStr> {
 fn is_space(byte: u8) -> bool
     ensures { result ≡ space byte }
 {
-    match byte {
-        b' ' | b'\t' | b'\n' | 0x0c | b'\r' | 0x0b => true,
-        _ => false,
-    }
+    matches!(byte, b' ' | b'\t' | b'\n' | 0x0c | b'\r' | 0x0b)
 }
 
-// Where the whitespace that begins at `from` ends.
-fn past_space(bytes: &[u8], from: usize) -> usize
-    ensures same { runs_from result result (drop result bytes.now) ≡ runs_from from from (drop from bytes.now) }
-    ensures bare { result < length bytes.now → space (slice_index bytes.now result) ≡ false }
+// How many bytes at the front are whitespace, or, where `spaces` is false, are none.
+fn stretch_len(bytes: &[u8], spaces: bool) -> usize
+    ensures value { result ≡ stretch_of bytes.now spaces }
+    ensures within { result ≤ length bytes.now }
 {
-    let mut at = from;
-    while at < bytes.len() && is_space(bytes[at]) {
-        at += 1;
-    }
-    at
-}
-
-// Where the run that begins at `from` ends.
-fn run_end(bytes: &[u8], from: usize) -> usize
-    ensures after { from ≤ result }
-    ensures same { runs_from from result (drop result bytes.now) ≡ runs_from from from (drop from bytes.now) }
-    ensures ends { result < length bytes.now → space (slice_index bytes.now result) ≡ true }
-{
-    let mut at = from;
-    while at < bytes.len() && !is_space(bytes[at]) {
-        at += 1;
-    }
-    at
+    bytes
+        .iter()
+        .take_while(|byte| spaces == is_space(**byte))
+        .count()
 }
 
 impl<S: AnyStr> Runs<S> {
     // All the runs of a text.
     pub fn new(text: S) -> Runs<S>
-        ensures { runs_from result.place result.place (drop result.place (concat (S.AnyStr.elements result.text))) ≡ runs (concat (S.AnyStr.elements text)) }
+        ensures { left S.AnyStr.elements result ≡ runs (concat (S.AnyStr.elements text)) }
     {
         Runs { text, place: 0 }
     }
 }
 
-impl<S: AnyStr> Pieces for Runs<S> {
-    ghost left = { λ s. runs_from s.place s.place (drop s.place (concat (S.AnyStr.elements s.text))) };
+impl<S: AnyStr> Iterator for Runs<S> {
+    type Item = Piece;
 
-    ghost few = { λ s. left-few s.place (concat (S.AnyStr.elements s.text)) (S.AnyStr.few s.text) };
+    ghost next_gives = { YieldsFirstBy span (left S.AnyStr.elements) };
 
-    fn next_piece(&mut self) -> Option<Piece> {
-        let bytes = self.text.as_bytes();
-        let start = past_space(bytes, self.place);
-        if start >= bytes.len() {
+    ghost remaining = { item_count (left S.AnyStr.elements) };
+
+    fn next(&mut self) -> Option<Piece> {
+        let rest = self.text.as_bytes().get(self.place..)?;
+        let passed = stretch_len(rest, true);
+        let len = stretch_len(&rest[passed..], false);
+        if len == 0 {
             return None;
         }
-        let end = run_end(bytes, start);
+        let start = self.place + passed;
+        let end = start + len;
         self.place = end;
         Some(Piece { start, end })
     }
+}
+
+impl<S: AnyStr> Pieces for Runs<S> {
+    ghost left = { left S.AnyStr.elements };
+
+    ghost few = { λ s. left-few s.place (concat (S.AnyStr.elements s.text)) (S.AnyStr.few s.text) };
+
+    ghost asked = { λ _. tt };
+
+    ghost gives = { λ _ _ _ h. h };
+
+    ghost counts = { λ _. refl };
 }

@@ -1,17 +1,19 @@
 // The calls on a cutter.
-ghost use Rattle.std.specs.Prelude.{◌≡◌, ◌-◌, ◌≤◌, true, false, ◌++◌, length, take, drop, Some};
+ghost use Rattle.std.specs.Prelude.{◌≡◌, ◌-◌, ◌≤◌, true, false, cond, [], length, take, drop, Some};
 ghost use Rattle.std.specs.List.{concat};
+ghost use Rattle.anystr.specs.Limits.{most_bytes};
+ghost use Rattle.trays.specs.Trays.{Grown};
 ghost use Rattle.cuts.specs.Cuts.{opened, at};
 ghost use Rattle.cuts.specs.Runs.{RunsLaw, needed, poured_out};
-ghost use Rattle.cutters.specs.Calls.{sheet, state, span, SameSheet, Placed, PieceOn, Nexts, Rests, Skips, CutsNext, Pours};
+ghost use Rattle.cutters.specs.Calls.{sheet, state, span, SameSheet, Placed, PieceOn, Nexts, Rests, Skips, Pours};
 
 use super::Cutter;
 use crate::bound::fewer;
 use crate::piece::Piece;
+use crate::progress::Progress;
 use anystr::anystr::AnyStr;
 use anystr::bytes::Bytes;
 use anystr::refusal::Refusal;
-use searchers::mark::Mark;
 use searchers::searcher::Searcher;
 use trays::container::AnyStrContainer;
 
@@ -19,17 +21,23 @@ use trays::container::AnyStrContainer;
 fn stretch(bytes: &[u8], start: usize, end: usize) -> &[u8]
     ensures { result.now ≡ take (end - start) (drop start bytes.now) }
 {
-    let end = end.min(bytes.len());
-    if start < end { &bytes[start..end] } else { &[] }
+    bytes.get(start..end.min(bytes.len())).unwrap_or(&[])
 }
 
-// Appends a text that fits.
-fn append<S: AnyStr, T: AnyStrContainer>(text: &S, tray: &mut T)
-    requires { length (concat (S.AnyStr.elements text.now)) ≤ length (T.AnyStrContainer.spare tray.old) }
-    ensures held { T.AnyStrContainer.held tray.new ≡ T.AnyStrContainer.held tray.old ++ concat (S.AnyStr.elements text.now) }
-    ensures spare { T.AnyStrContainer.spare tray.new ≡ drop (length (concat (S.AnyStr.elements text.now))) (T.AnyStrContainer.spare tray.old) }
+// The bytes that come after a piece: those of `to`, and none after the last piece.
+fn gap_after<S: AnyStr>(progress: Progress, to: &S) -> &[u8]
+    ensures { result.now ≡ cond progress.spent [] (concat (S.AnyStr.elements to.now)) }
 {
-    let _ = tray.push_str(text);
+    if progress.spent { &[] } else { to.as_bytes() }
+}
+
+// Appends bytes that fit.
+fn append<T: AnyStrContainer>(bytes: &[u8], tray: &mut T)
+    requires few { length bytes.now ≤ most_bytes }
+    requires fits { length bytes.now ≤ length (T.AnyStrContainer.spare tray.old) }
+    ensures { Grown T.AnyStrContainer.held T.AnyStrContainer.spare bytes.now tray.old tray.new }
+{
+    let _ = tray.push_str(&Bytes::new(bytes));
 }
 
 impl<S: AnyStr, F: Searcher<S>> Cutter<S, F> {
@@ -44,9 +52,7 @@ impl<S: AnyStr, F: Searcher<S>> Cutter<S, F> {
             text,
             searcher,
             bound,
-            place: 0,
-            made: 0,
-            spent: false,
+            progress: Progress::from_place(0),
         }
     }
 
@@ -56,20 +62,23 @@ impl<S: AnyStr, F: Searcher<S>> Cutter<S, F> {
         ensures cut { Placed S.AnyStr.elements self.now → PieceOn (S.AnyStr.elements self.now.text) (Some result) }
     {
         Piece {
-            start: self.place,
+            start: self.progress.place,
             end: self.text.bytes_len(),
         }
     }
 
     // The whole rest, as the last piece.
     fn last(&mut self) -> Piece
-        ensures value { span result ≡ (self.old.place, length (concat (S.AnyStr.elements self.old.text))) }
-        ensures after { state self.new ≡ at (length (concat (S.AnyStr.elements self.old.text))) self.old.made true }
+        ensures value { span result ≡ (self.old.progress.place, length (concat (S.AnyStr.elements self.old.text))) }
+        ensures after { state self.new ≡ at (length (concat (S.AnyStr.elements self.old.text))) self.old.progress.made true }
         ensures same { SameSheet self.old self.new }
     {
         let piece = self.rest();
-        self.place = piece.end;
-        self.spent = true;
+        self.progress = Progress {
+            place: piece.end,
+            spent: true,
+            ..self.progress
+        };
         piece
     }
 
@@ -79,88 +88,76 @@ impl<S: AnyStr, F: Searcher<S>> Cutter<S, F> {
         ensures same { SameSheet self.old self.new }
         ensures cut { Placed S.AnyStr.elements self.old → PieceOn (S.AnyStr.elements self.old.text) result × Placed S.AnyStr.elements self.new }
     {
-        if self.spent {
+        if self.progress.spent {
             return None;
         }
-        if !fewer(self.made, self.bound) {
+        if !fewer(self.progress.made, self.bound) {
             return Some(self.last());
         }
         let text = self.text;
-        let place = self.place;
-        let Some(mark) = self.searcher.find(&text, place) else {
+        let start = self.progress.place;
+        let Some(mark) = self.searcher.find(&text, start) else {
             return Some(self.last());
         };
-        self.place = mark.end;
-        self.made += 1;
+        self.progress = Progress {
+            place: mark.end,
+            made: self.progress.made + 1,
+            ..self.progress
+        };
         Some(Piece {
-            start: place,
+            start,
             end: mark.start,
         })
     }
+
     // Passes over `n` pieces; refused, with the number of pieces left, where these are fewer.
     pub fn skip(&mut self, n: u64) -> Result<(), Refusal>
         ensures step { Skips F.Searcher.marks S.AnyStr.elements self.old n result self.new }
         ensures same { SameSheet self.old self.new }
         ensures cut { Placed S.AnyStr.elements self.old → Placed S.AnyStr.elements self.new }
     {
-        let place = self.place;
-        let made = self.made;
-        let spent = self.spent;
-        for done in 0..n {
+        let before = self.progress;
+        for left in 0..n {
             let Some(_) = self.next() else {
-                self.place = place;
-                self.made = made;
-                self.spent = spent;
-                return Err(Refusal::TooFew { left: done });
+                self.progress = before;
+                return Err(Refusal::TooFew { left });
             };
         }
         Ok(())
     }
 
-    // The mark that is cut next from `place` on, after `made` cuts, if one is.
-    fn cut_from(&self, place: usize, made: u64) -> Option<Mark>
-        ensures { CutsNext (sheet F.Searcher.marks S.AnyStr.elements self.now) made place result }
+    // The bytes that the rest takes with `to` in place of each mark still to be cut; the cutter is as it was.
+    fn measure(&mut self, to: &S) -> u64
+        requires { self.old.progress.spent ≡ false }
+        ensures value { result ≡ length (needed (sheet F.Searcher.marks S.AnyStr.elements self.old) (concat (S.AnyStr.elements to.now)) (state self.old)) }
+        ensures after { state self.new ≡ state self.old }
+        ensures same { SameSheet self.old self.new }
     {
-        if !fewer(made, self.bound) {
-            return None;
-        }
+        let before = self.progress;
         let text = self.text;
-        self.searcher.find(&text, place)
-    }
-
-    // The bytes that the rest takes with `to` in place of each mark still to be cut.
-    fn measure(&self, to: &S) -> u64
-        requires { self.now.spent ≡ false }
-        ensures { result ≡ length (needed (sheet F.Searcher.marks S.AnyStr.elements self.now) (concat (S.AnyStr.elements to.now)) (state self.now)) }
-    {
-        let gap = to.bytes_len();
-        let mut place = self.place;
-        let mut made = self.made;
+        let bytes = text.as_bytes();
         let mut sum = 0;
-        while let Some(mark) = self.cut_from(place, made) {
-            sum += mark.start - place + gap;
-            place = mark.end;
-            made += 1;
+        while let Some(piece) = self.next() {
+            sum += stretch(bytes, piece.start, piece.end).len()
+                + gap_after(self.progress, to).len();
         }
-        (sum + self.text.bytes_len().saturating_sub(place)) as u64
+        self.progress = before;
+        sum as u64
     }
 
     // Appends the rest, which fits, to the tray with `to` in place of each mark still to be cut.
     fn pour_pieces<T: AnyStrContainer>(&mut self, to: &S, tray: &mut T)
-        requires unspent { self.old.spent ≡ false }
+        requires unspent { self.old.progress.spent ≡ false }
         requires fits { length (needed (sheet F.Searcher.marks S.AnyStr.elements self.old) (concat (S.AnyStr.elements to.now)) (state self.old)) ≤ length (T.AnyStrContainer.spare tray.old) }
-        ensures held { T.AnyStrContainer.held tray.new ≡ T.AnyStrContainer.held tray.old ++ needed (sheet F.Searcher.marks S.AnyStr.elements self.old) (concat (S.AnyStr.elements to.now)) (state self.old) }
-        ensures spare { T.AnyStrContainer.spare tray.new ≡ drop (length (needed (sheet F.Searcher.marks S.AnyStr.elements self.old) (concat (S.AnyStr.elements to.now)) (state self.old))) (T.AnyStrContainer.spare tray.old) }
+        ensures grown { Grown T.AnyStrContainer.held T.AnyStrContainer.spare (needed (sheet F.Searcher.marks S.AnyStr.elements self.old) (concat (S.AnyStr.elements to.now)) (state self.old)) tray.old tray.new }
         ensures after { state self.new ≡ poured_out (sheet F.Searcher.marks S.AnyStr.elements self.old) (state self.old) }
         ensures same { SameSheet self.old self.new }
     {
         let text = self.text;
         let bytes = text.as_bytes();
         while let Some(piece) = self.next() {
-            append(&Bytes::new(stretch(bytes, piece.start, piece.end)), tray);
-            if !self.spent {
-                append(to, tray);
-            }
+            append(stretch(bytes, piece.start, piece.end), tray);
+            append(gap_after(self.progress, to), tray);
         }
     }
 
@@ -171,7 +168,7 @@ impl<S: AnyStr, F: Searcher<S>> Cutter<S, F> {
         ensures same { SameSheet self.old self.new }
         ensures cut { Placed S.AnyStr.elements self.old → Placed S.AnyStr.elements self.new }
     {
-        if self.spent {
+        if self.progress.spent {
             return Err(Refusal::Spent);
         }
         let needed = self.measure(to);

@@ -1,4 +1,4 @@
-use Rattle.std.proofs.Common.{◌≡◌, true, false, pos, sym, ap, ◌∙◌, arith, w64, SFits, of_z, rules}
+use Rattle.std.proofs.Common.{◌≡◌, true, false, pos, sym, ap, ◌∙◌, arith, w64, SFits, to_z, of_z, rules}
 use lib.Signed.{lt_z}
 use Rattle.std.specs.List.{concat}
 use Rattle.std.proofs.lemmas.Int.{ints, to_z-of_z}
@@ -6,6 +6,7 @@ use Rattle.replaces.specs.Replaces.{bound_of, replaced}
 use Rattle.replaces.proofs.Filling.{fills, bound-zero, bound-above, bound-below}
 use Rattle.replaces.proofs.Law.{none-replaced, replace-law}
 use Rattle.replaces.proofs.replace.Goals as goal
+use Rattle.replaces.proofs.replace.Goals.{in-Present-2, in-Present-3, in-Missing}
 
 pub returns-in-Present : goal.returns-in-Present
 returns-in-Present g c =
@@ -22,32 +23,24 @@ returns-in-Present g c =
       law = replace-law es from to (bound_of c.args.maxcount) (g.S.AnyStr.filled text);
     }
 
-pub returns-in-Present-2 : goal.returns-in-Present-2
-returns-in-Present-2 g c =
-    let count = c.in-Present-2.count in
-    let f : SFits w64 count = search rules in
-    let at = to_z-of_z w64 count f in
-    let above : lt_z (pos 0) count ≡ true = ap (lt_z (pos 0)) (sym at) ∙ c.if-count-gt0.true in
-    let same = bound-above c.args.maxcount count c.in-Present-2.is above in
+pub returns : goal.returns
+returns g c =
+    let same : bound_of c.args.maxcount ≡ to_z w64 c.match-maxcount.bound-bits = elim c.match-maxcount.branch [
+      | in-Present-2 w ↦
+          let count = w.in-Present-2.count in
+          let f : SFits w64 count = search rules in
+          let at = to_z-of_z w64 count f in
+          let above : lt_z (pos 0) count ≡ true = ap (lt_z (pos 0)) (sym at) ∙ w.if-count-gt0.true in
+          bound-above c.args.maxcount count w.in-Present-2.is above ∙ (sym at ∙ sym w.bound-is)
+      | in-Present-3 w ↦
+          let count = w.in-Present-2.count in
+          let f : SFits w64 count = search rules in
+          let some : (count ≡ pos 0 → ⊥) = λ z. w.if-count-eq0.false (ap (of_z w64) ((let e : w.in-Present.count ≡ count = cc in e) ∙ z)) in
+          let below : lt_z (pos 0) count ≡ false = ap (lt_z (pos 0)) (sym (to_z-of_z w64 count f)) ∙ w.if-count-gt0.false in
+          bound-below c.args.maxcount count w.in-Present-2.is some below ∙ sym w.bound-is
+      | in-Missing w ↦ ap bound_of w.in-Missing.is ∙ sym w.bound-is
+    ] in
     record {
-      filled = rw (same, ← at) c.replace_bounded.ensures;
+      filled = rw same c.replace.ensures;
       law = replace-law _ _ _ _ (g.S.AnyStr.filled c.args.text.now);
     }
-
-pub returns-in-Present-3 : goal.returns-in-Present-3
-returns-in-Present-3 g c =
-    let count = c.in-Present-2.count in
-    let f : SFits w64 count = search rules in
-    let some : (count ≡ pos 0 → ⊥) = λ z. c.if-count-eq0.false (ap (of_z w64) ((let e : c.in-Present.count ≡ count = cc in e) ∙ z)) in
-    let below : lt_z (pos 0) count ≡ false = ap (lt_z (pos 0)) (sym (to_z-of_z w64 count f)) ∙ c.if-count-gt0.false in
-    let same = bound-below c.args.maxcount count c.in-Present-2.is some below in
-    record {
-      filled = rw same c.replace_bounded-in-Present-3.ensures;
-      law = replace-law _ _ _ _ (g.S.AnyStr.filled c.args.text.now);
-    }
-
-pub returns-in-Missing : goal.returns-in-Missing
-returns-in-Missing g c = record {
-  filled = rw c.in-Missing.is c.replace_bounded-in-Missing.ensures;
-  law = replace-law _ _ _ _ (g.S.AnyStr.filled c.args.text.now);
-}

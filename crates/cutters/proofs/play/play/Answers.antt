@@ -4,7 +4,7 @@ use Rattle.std.proofs.lemmas.Int.{to_z-of_z}
 use Rattle.std.proofs.lemmas.List.{take_more, take_more_set, take_all, drop-set-lt, drop-drop}
 use Rattle.cuts.specs.Cuts.{Sheet, State, opened}
 use Rattle.cuts.specs.Runs as runs
-use Rattle.cuts.specs.Runs.{Event, Run, Step}
+use Rattle.cuts.specs.Runs.{Run, Step}
 use Rattle.cutters.specs.Calls.{sheet, state}
 use Rattle.cutters.specs.Plays as plays
 use Rattle.cutters.specs.Plays.{Played, opened_on}

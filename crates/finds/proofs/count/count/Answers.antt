@@ -1,25 +1,13 @@
-use Rattle.std.proofs.Common.{length}
-use Rattle.finds.specs.Asked.{needle_bytes}
+use Rattle.std.proofs.Common.{◌≡◌, length, rules}
+use Rattle.anystr.specs.Refusals.{coded}
+use Rattle.finds.specs.Asked.{asked}
 use Rattle.finds.specs.Counts.{count_of, Number}
-use Rattle.finds.proofs.Meant.{meant, answers, keeps}
+use Rattle.finds.proofs.Meant.{keeps}
 use Rattle.finds.proofs.Cutting.{number_is}
 use Rattle.finds.proofs.count.count.Goals as goal
-
-pub times_between-requires : goal.times_between-requires
-times_between-requires c =
-    (meant c.args.options c.args.text.now.bytes.now (needle_bytes c.in_ok-needle.needle) c.as_bytes.result.now c.new-needle.result.bytes.now c.bytes_len.result c.in_ok-needle.range.start c.in_ok-needle.range.end
-    c.in_ok-needle.ensures c.bytes_len.ensures c.as_bytes.ensures c.new-needle.ensures.given).within
 
 pub returns : goal.returns
 returns c =
     let bs = c.args.text.now.bytes.now in
-    let n = c.new-needle.result.bytes.now in
-    let a = c.in_ok-needle.range.start in
-    let b = c.in_ok-needle.range.end in
-    let m =
-    meant c.args.options bs (needle_bytes c.in_ok-needle.needle) c.as_bytes.result.now n c.bytes_len.result a b
-    c.in_ok-needle.ensures c.bytes_len.ensures c.as_bytes.ensures c.new-needle.ensures.given in
-    record {
-      value = answers c.args.options (length bs) n a b m c.times_between.result (count_of bs) c.times_between.ensures;
-      law = keeps c.args.options (length bs) n a b m c.times_between.result (Number bs) (number_is bs n a b c.times_between.result m.within c.times_between.ensures);
-    }
+    let value : coded c.ask.result ≡ asked (count_of bs) c.args.options (length bs) = search rules in
+    record { value = value; law = keeps (count_of bs) (Number bs) c.args.options (length bs) (λ n a b k within is. number_is bs n a b k within is) c.ask.result value }

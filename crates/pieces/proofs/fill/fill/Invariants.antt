@@ -3,7 +3,7 @@ use Rattle.pieces.specs.Sources.{Filled}
 use Rattle.pieces.proofs.fill.fill.Given as goal
 
 -- the first pieces stand in the list, and what is left of the source follows them
-abbrev pub invariant-loop-i : goal.invariant-loop-i
-invariant-loop-i g l =
-    Filled (take l.i (g.P.Pieces.left l.initial.source)) l.initial.places l.places
-    × (g.P.Pieces.left l.source ≡ drop l.i (g.P.Pieces.left l.initial.source))
+abbrev pub invariant-loop-place : goal.invariant-loop-place
+invariant-loop-place g l =
+    Filled (take l.place-index (g.P.Pieces.left l.initial.source)) l.initial.places l.places
+    × (g.P.Pieces.left l.source ≡ drop l.place-index (g.P.Pieces.left l.initial.source))

@@ -3,7 +3,4 @@ use Rattle.searchers.proofs.scan.last_mark.Given as goal
 
 -- no mark ends after the offset that is looked at
 abbrev pub invariant-loop-end : goal.invariant-loop-end
-invariant-loop-end g l = (l.end ≤ l.before) × ((b d : ℕ) → l.end < d → d ≤ l.before → T (g.P.Pattern.marks l.pattern l.bytes b d) → ⊥)
-
-abbrev pub decreases-loop-end : goal.decreases-loop-end
-decreases-loop-end g l = l.end
+invariant-loop-end g l = (b d : ℕ) → l.end < d → d ≤ l.before → T (g.P.Pattern.marks l.pattern l.bytes b d) → ⊥

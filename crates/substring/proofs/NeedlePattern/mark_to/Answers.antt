@@ -1,17 +1,22 @@
-use Rattle.std.proofs.Common.{arith}
-use Rattle.anystr.specs.OfBytes.{occurs-within}
-use Rattle.substring.specs.Occurrences.{occurrence-is}
+use Rattle.std.proofs.Common.{◌≡◌, ◌+◌, length, ⊎_elim, arith, rules}
+use Rattle.substring.proofs.Needles.{fits, stands, stands_not, to_end}
 use Rattle.substring.proofs.NeedlePattern.mark_to.Goals as goal
-use Rattle.substring.proofs.NeedlePattern.mark_to.Goals.{then-n-eq0-via-then-n-eq0, then-n-eq0-via-else-n-eq0+then-end-n, then-n-eq0-via-else-n-eq0+else-end-n+then-bytes-end}
 
-pub returns-then-n-eq0 : goal.returns-then-n-eq0
-returns-then-n-eq0 c a m =
+pub returns-in_err-get : goal.returns-in_err-get
+returns-in_err-get c = rw c.from_residual.ensures (λ a m. let f = fits c.args.self.now.bytes.now c.args.bytes.now a c.args.end m in ⊎_elim (λ past. omega arith) (λ past. omega arith) c.in_err-get.ensures.lookup.0)
+
+pub returns-in_err-front : goal.returns-in_err-front
+returns-in_err-front c =
     let n = c.args.self.now.bytes.now in
     let bs = c.args.bytes.now in
-    let o = occurrence-is n bs a c.args.end m in
-    let fits = occurs-within bs n a o.nonempty o.occurs in
-    elim c.then-n-eq0.branch [
-      | then-n-eq0-via-then-n-eq0 w ↦ omega arith
-      | then-n-eq0-via-else-n-eq0+then-end-n w ↦ omega arith
-      | then-n-eq0-via-else-n-eq0+else-end-n+then-bytes-end w ↦ omega arith
-    ]
+    let front = c.in_ok-get.ensures.lookup.0 in
+    rw c.from_residual-in_err-front.ensures (λ a m. stands_not n bs a c.args.end _ (to_end n bs _ a c.args.end front.2 front.3 (fits n bs a c.args.end m).1) c.in_err-front.ensures.cases m)
+
+pub returns : goal.returns
+returns c =
+    let n = c.args.self.now.bytes.now in
+    let bs = c.args.bytes.now in
+    let front = c.in_ok-get.ensures.lookup.0 in
+    let cut = c.in_ok-front.ensures.cases in
+    let end : c.args.end ≡ length c.in_ok-front.front.now + length n = omega (arith, cut.2, front.3) in
+    stands n bs _ c.args.end _ (to_end n bs _ _ c.args.end front.2 front.3 end) (search rules) end cut.0

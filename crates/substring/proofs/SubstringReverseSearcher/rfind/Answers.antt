@@ -1,19 +1,12 @@
-use Rattle.std.proofs.Common.{ℕ, List, subst}
+use Rattle.std.proofs.Common.{arith}
 use Rattle.std.specs.List.{concat}
-use Rattle.searchers.specs.Marks.{FindsBack}
-use Rattle.substring.specs.Occurrences.{occurrence}
-use Rattle.searchers.proofs.Answered.{finds_back_in, finds_back_on}
+use Rattle.std.proofs.lemmas.Grind.{common_steps}
 use Rattle.substring.proofs.OnText.{occurrences_on}
 use Rattle.substring.proofs.SubstringReverseSearcher.rfind.Goals as goal
 
-pub returns : goal.returns
-returns g c =
+pub returns-clause-cut : goal.returns-clause-cut
+returns-clause-cut g c =
     let s = c.args.text.now in
     let t = c.args.self.now.needle in
-    let es = g.S.AnyStr.elements s in
-    let n = concat (g.S.AnyStr.elements t) in
-    let bs = c.as_bytes-2.result.now in
-    let p = c.args.before in
-    let r = c.last_mark.result in
-    let h = finds_back_in (occurrence n) bs (concat es) c.as_bytes-2.ensures p r (subst (λ (k : List ℕ). FindsBack (occurrence k bs) p r) c.as_bytes.ensures c.last_mark.ensures) in
-    record { value = h; cut = finds_back_on es (occurrence n (concat es)) p r (occurrences_on es n (g.S.AnyStr.whole s t)) h }
+    let on = occurrences_on (g.S.AnyStr.elements s) (concat (g.S.AnyStr.elements t)) (g.S.AnyStr.whole s t) in
+    grind (arith, common_steps)

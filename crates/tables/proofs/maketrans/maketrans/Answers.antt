@@ -1,49 +1,70 @@
-use Rattle.std.proofs.Common.{◌≡◌, ◌-◌, length, get_or, sym, refl, ap, ◌∙◌, arith, length-set, rules}
+use Rattle.std.proofs.Common.{◌≡◌, ℕ, ◌-◌, ◌==◌, true, false, List, length, reverse, Ok, Err, Result, refl, ap, ◌∙◌, arith, length-set, rules}
 use Rattle.std.specs.List.{concat}
-use Rattle.std.proofs.lemmas.Bool.{ne_eqb}
+use Rattle.std.proofs.lemmas.Bool.{eq-eqb, ne_eqb}
+use Rattle.std.proofs.lemmas.List.{length_push, length-reverse}
+use Rattle.std.proofs.lemmas.Iterator.{YieldsList-from_zip}
+use Rattle.std.proofs.lemmas.Iterator.Adapters.{YieldsList-from_rev_slice}
+use Rattle.std.proofs.lemmas.Iterator.Consumers.{YieldsList-turn, YieldsList-end}
+use Rattle.std.proofs.lemmas.Slice.Zip.{length-zip}
 use Rattle.anystr.specs.OfBytes.{singles, concat-singles}
-use Rattle.tables.specs.Tables.{byte_values}
-use Rattle.tables.specs.Maketrans.{table_from}
-use Rattle.tables.proofs.Filled.{refused-if}
-use Rattle.tables.proofs.Partners.{partners_none, partners_more, partners_all, tabled}
+use Rattle.anystr.specs.declared.refusal.Refusal.{Refusal}
+use Rattle.trays.specs.Trays.{Pushed}
+use Rattle.tables.specs.Tables.{byte_values, Appends}
+use Rattle.tables.specs.Maketrans.{table_from, MapsFirst}
+use Rattle.tables.proofs.Partners.{partners_none, partners_turn, partners_all, maps_first}
 use Rattle.tables.proofs.maketrans.maketrans.Goals as goal
 
-pub returns-then-keys-values : goal.returns-then-keys-values
-returns-then-keys-values g c =
+-- what holds of bytes that are pushed holds of those that are appended
+pushed_appends : {X : Type 0} (P : List ℕ → Type 0) (bytes held spare held' spare' : List ℕ) (r : Result X Refusal) → P bytes → Pushed bytes held spare held' spare' r → Appends held held' P r
+pushed_appends P bytes held spare held' spare' (Ok _) holds p = (bytes, p.1, holds)
+pushed_appends P bytes held spare held' spare' (Err _) holds p = tt
+
+pub returns-then-keys-values-clause-value : goal.returns-then-keys-values-clause-value
+returns-then-keys-values-clause-value g c =
     let from = c.args.from.now.bytes.now in
     let to = c.args.to.now.bytes.now in
     let f = ap length (c.as_bytes-keys.ensures ∙ concat-singles from) in
     let t = ap length (c.as_bytes-values.ensures ∙ concat-singles to) in
-    record { value = refused-if _ _ _ _ _ _ _ _ (ne_eqb (length from) (length to) (λ e. c.if-keys-values.true (f ∙ (e ∙ sym t)))) refl refl refl; first = tt }
+    let other : (length from == length to) ≡ false = ne_eqb (length from) (length to) (λ e. c.if-keys-values.true (omega arith)) in
+    rw other (refl, refl, refl)
 
-pub loop-i-init : goal.loop-i-init
-loop-i-init g c =
-    let keys = c.as_bytes-keys.result.now in
+pub loop-key-init : goal.loop-key-init
+loop-key-init g c =
+    let from = c.args.from.now.bytes.now in
+    let to = c.args.to.now.bytes.now in
     let long : length c.identity-table.result ≡ byte_values = search rules in
-    (long, partners_none c.identity-table.result keys c.as_bytes-values.result.now (length keys) (omega arith) c.identity-table.ensures)
+    let f = ap length (c.as_bytes-keys.ensures ∙ concat-singles from) in
+    let t = ap length (c.as_bytes-values.ensures ∙ concat-singles to) in
+    (long, omega arith, partners_none c.identity-table.result from to (length from - 0) (omega arith) c.identity-table.ensures)
 
-pub loop-i-preserved : goal.loop-i-preserved
-loop-i-preserved g c =
-    let keys = c.as_bytes-keys.result.now in
-    let values = c.as_bytes-values.result.now in
-    let i = c.loop-i.i - 1 in
-    (length-set c.loop-i.table (get_or keys i 0) (get_or values i 0) ∙ c.loop-i.invariant.0, partners_more c.loop-i.table keys values i c.loop-i.i (omega arith) c.loop-i.invariant.0 (omega arith) (omega arith) c.loop-i.invariant.1)
+pub loop-key-preserved : goal.loop-key-preserved
+loop-key-preserved g c =
+    let from = c.args.from.now.bytes.now in
+    let to = c.args.to.now.bytes.now in
+    let f = concat-singles from in
+    let t = concat-singles to in
+    let inv = c.loop-key.invariant in
+    let pairs = YieldsList-from_zip (YieldsList-from_rev_slice from cc) (YieldsList-from_rev_slice to cc) in
+    let next = YieldsList-turn pairs c.loop-key.yielded _ c.loop-key.yielded_by _ c.next.new.self (c.in-Some.key, c.in-Some.value) c.in-Some.is c.next.ensures.steps in
+    let one = length_push c.loop-key.yielded (c.in-Some.key, c.in-Some.value) in
+    (length-set c.loop-key.table c.in-Some.key.now c.in-Some.value.now ∙ inv.0, inv.1, partners_turn c.loop-key.table from to _ _ _ _ inv.1 next.0 next.1 one inv.0 inv.2)
 
 pub returns : goal.returns
 returns g c =
     let from = c.args.from.now.bytes.now in
     let to = c.args.to.now.bytes.now in
-    let keys = c.as_bytes-keys.result.now in
-    let values = c.as_bytes-values.result.now in
-    let table = c.loop-i.table in
-    let f : keys ≡ from = c.as_bytes-keys.ensures ∙ concat-singles from in
-    let t : values ≡ to = c.as_bytes-values.ensures ∙ concat-singles to in
-    let e : length from ≡ length to = sym (ap length f) ∙ (c.if-keys-values.false ∙ ap length t) in
-    let made : table ≡ table_from from to = partners_all table keys values c.loop-i.i (omega arith) c.loop-i.invariant.0 c.loop-i.invariant.1 ∙ (ap (λ xs. table_from xs values) f ∙ ap (table_from from) t) in
-    let shown : concat (singles c.new.result.bytes.now) ≡ table_from from to = ap concat (c.new.ensures.given (omega (arith, c.loop-i.invariant.0))) ∙ (concat-singles table ∙ made) in
+    let f = concat-singles from in
+    let t = concat-singles to in
+    let inv = c.loop-key.invariant in
+    let pairs = YieldsList-from_zip (YieldsList-from_rev_slice from cc) (YieldsList-from_rev_slice to cc) in
+    let end = YieldsList-end pairs c.loop-key.yielded _ c.loop-key.yielded_by _ c.next.new.self c.in-None.is c.next.ensures.steps in
+    let table = c.loop-key.table in
+    let made : table ≡ table_from from to = partners_all table from to (length from - length c.loop-key.yielded) (omega (arith, end.1, length-zip (reverse from) (reverse to), length-reverse from, length-reverse to)) inv.0 inv.2 in
+    let shown : concat (singles c.new.result.bytes.now) ≡ table_from from to = ap concat (c.new.ensures.given (omega (arith, inv.0))) ∙ (concat-singles table ∙ made) in
+    let p = rw shown at c.push_str.ensures in
+    let same : (length from == length to) ≡ true = eq-eqb (length from) (length to) inv.1 in
     let held = g.T.AnyStrContainer.held in
     let spare = g.T.AnyStrContainer.spare in
     let before = c.args.tray.now in
     let after = c.push_str.new.self in
-    let a = tabled from to _ (held before) (spare before) (held after) (spare after) c.push_str.result e shown c.push_str.ensures in
-    record { value = a.0; first = a.1 }
+    record { value = rw same p; first = pushed_appends (MapsFirst from to) (table_from from to) (held before) (spare before) (held after) (spare after) c.push_str.result (maps_first from to inv.1) p }

@@ -1,15 +1,15 @@
-use Rattle.std.proofs.Common.{◌≡◌, ℕ, ◌<◌, length, take}
+use Rattle.std.proofs.Common.{◌≡◌, ℕ, take, Ok}
 use Rattle.bytesets.specs.Sets.{among, member}
-use Rattle.tables.specs.Tables.{byte_values}
-use Rattle.tables.specs.Translations.{batch_bytes, image, table_in}
-use Rattle.tables.proofs.Waiting.{Waiting, done}
+use Rattle.trays.specs.Trays.{Pushed}
+use Rattle.tables.specs.Translations.{image, table_in}
+use Rattle.tables.proofs.Done.{done}
 use Rattle.tables.proofs.translate.translate.Given as goal
 
 abbrev pub invariant-loop-d : goal.invariant-loop-d
-invariant-loop-d g l = (length l.gone ≡ byte_values) × ((b : ℕ) → member l.gone b ≡ among (take l.d-index l.delete) b)
+invariant-loop-d g l = (b : ℕ) → member l.gone.has b ≡ among (take l.d-index l.delete) b
 
+-- what is kept of the bytes so far is in the tray, as the table maps it
 abbrev pub invariant-loop-b : goal.invariant-loop-b
 invariant-loop-b g l =
-    (length l.batch ≡ batch_bytes) × (l.len < batch_bytes)
-    × Waiting (g.T.AnyStrContainer.held l.initial.tray) (g.T.AnyStrContainer.spare l.initial.tray) (done (image (table_in l.options)) (member l.gone) l.bytes l.b-index)
-    (g.T.AnyStrContainer.held l.tray) (g.T.AnyStrContainer.spare l.tray) (take l.len l.batch)
+    Pushed {X = Unit {0}} (done (image (table_in l.options)) (member l.gone.has) l.bytes l.b-index) (g.T.AnyStrContainer.held l.initial.tray) (g.T.AnyStrContainer.spare l.initial.tray)
+    (g.T.AnyStrContainer.held l.tray) (g.T.AnyStrContainer.spare l.tray) (Ok tt)

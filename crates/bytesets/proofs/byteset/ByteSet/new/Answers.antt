@@ -1,21 +1,12 @@
-use Rattle.std.proofs.Common.{ℕ, ◌<◌, true, get_or, take, sym, refl, ap, ◌∙◌, arith, length-set, rules}
-use Rattle.std.proofs.lemmas.List.{take_more, take_all}
-use Rattle.bytesets.specs.Sets.{among}
-use Rattle.bytesets.proofs.Tables.{none_in, added}
+use Rattle.std.proofs.Common.{false, replicate, ⊎_elim, arith}
+use Rattle.std.proofs.lemmas.Grind.{common_steps}
+use Rattle.std.proofs.lemmas.List.{get_or-replicate, get_or_past, take_more}
+use Rattle.std.proofs.lemmas.List.Folds.{list_any-append}
+use Rattle.std.proofs.lemmas.Bool.{cases_lt}
 use Rattle.bytesets.proofs.byteset.ByteSet.new.Goals as goal
 
 pub loop-b-init : goal.loop-b-init
-loop-b-init c = (refl, λ b. none_in 256 b)
+loop-b-init c b = ⊎_elim (get_or-replicate 256 b false false) (get_or_past (replicate 256 false) b false) (cases_lt b 256)
 
 pub loop-b-preserved : goal.loop-b-preserved
-loop-b-preserved c =
-    let bs = c.args.bytes.now in
-    let i = c.loop-b.b-index in
-    let x : ℕ = get_or bs i 0 in
-    let few : x < 256 = search rules in (
-      length-set c.loop-b.has x true ∙ c.loop-b.invariant.0,
-      λ b. added c.loop-b.has (take i bs) x b (omega (arith, c.loop-b.invariant.0)) (c.loop-b.invariant.1 b) ∙ ap (λ xs. among xs b) (sym (take_more bs i 0 (omega arith))),
-    )
-
-pub returns : goal.returns
-returns c b = c.loop-b.invariant.1 b ∙ ap (λ xs. among xs b) (take_all c.loop-b.b-index c.args.bytes.now (omega arith))
+loop-b-preserved c b = grind (arith, common_steps, c.insert.ensures b, c.loop-b.invariant b, take_more c.args.bytes.now c.loop-b.b-index 0, list_any-append)

@@ -1,6 +1,6 @@
-use Rattle.std.proofs.Common.{◌≡◌, ℕ, length, take}
+use Rattle.std.proofs.Common.{◌≡◌, ℕ, take}
 use Rattle.bytesets.specs.Sets.{among, member}
 use Rattle.bytesets.proofs.byteset.ByteSet.new.Given as goal
 
 abbrev pub invariant-loop-b : goal.invariant-loop-b
-invariant-loop-b l = (length l.has ≡ 256) × ((b : ℕ) → member l.has b ≡ among (take l.b-index l.bytes) b)
+invariant-loop-b l = (b : ℕ) → member l.set.has b ≡ among (take l.b-index l.bytes) b

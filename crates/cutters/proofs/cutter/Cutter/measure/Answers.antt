@@ -1,47 +1,47 @@
-use Rattle.std.proofs.Common.{◌≡◌, ◌+◌, ◌∙◌, arith}
+use Rattle.std.proofs.Common.{◌≡◌, ◌+◌, ◌++◌, length, ap, arith, length-append}
 use Rattle.std.specs.List.{concat}
-use Rattle.cuts.proofs.Sizes.{poured-fits}
-use Rattle.cutters.specs.Calls.{sheet}
-use Rattle.cutters.proofs.Turns.{Turn, turn, ended, needed-unspent, bytes_from}
+use Rattle.cuts.proofs.Left.{to_pour, gave}
+use Rattle.cutters.specs.Calls.{sheet, state, span}
+use Rattle.cutters.proofs.Same.{same_again, step_on}
+use Rattle.cutters.proofs.Turns.{turn, to_pour-fits}
 use Rattle.cutters.proofs.cutter.Cutter.measure.Given as given
 use Rattle.cutters.proofs.cutter.Cutter.measure.Goals as goal
 
-turned : (g : given.Over) (c : goal.After-struct_known-1 g)
-    → Turn (sheet g.F.Searcher.marks g.S.AnyStr.elements c.args.self.now) (concat (g.S.AnyStr.elements c.args.to.now)) c.loop-mark.made c.loop-mark.place
-    c.in-Some.mark.start c.in-Some.mark.end c.loop-mark.sum
-    (bytes_from (sheet g.F.Searcher.marks g.S.AnyStr.elements c.args.self.now) (concat (g.S.AnyStr.elements c.args.to.now)) c.args.self.now.made c.args.self.now.place)
+turned : (g : given.Over) (c : goal.After-gap_after g)
+    → length (to_pour (sheet g.F.Searcher.marks g.S.AnyStr.elements c.args.self.now) (concat (g.S.AnyStr.elements c.args.to.now)) (state c.loop-piece.self))
+    ≡ length c.stretch.result.now + length c.gap_after.result.now
+    + length (to_pour (sheet g.F.Searcher.marks g.S.AnyStr.elements c.args.self.now) (concat (g.S.AnyStr.elements c.args.to.now)) (state c.next.new.self))
 turned g c =
     let k = c.args.self.now in
-    turn (sheet g.F.Searcher.marks g.S.AnyStr.elements k) (g.F.Searcher.lawful k.searcher (g.S.AnyStr.elements k.text)) _ _ _ _ _ _ k.made k.place
-    (g.S.AnyStr.few k.text) (g.S.AnyStr.few c.args.to.now) c.in-Some.ensures c.loop-mark.invariant.0
-
-pub overflow_sub-sum : goal.overflow_sub-sum
-overflow_sub-sum g c = (turned g c).from
-
-pub overflow_add-sum : goal.overflow_add-sum
-overflow_add-sum g c = omega (arith, (turned g c).fits, c.bytes_len-gap.ensures)
+    let here = c.loop-piece.self in
+    let after = c.next.new.self in
+    let on = sheet g.F.Searcher.marks g.S.AnyStr.elements k in
+    let to = concat (g.S.AnyStr.elements c.args.to.now) in
+    let p = span c.in-Some.piece in
+    let st = step_on g.F.Searcher.marks g.S.AnyStr.elements k here after p c.loop-piece.invariant.same c.in-Some.ensures.step in
+    let piece = c.stretch.result.now in
+    let gap = c.gap_after.result.now in
+    let parts = turn on (g.F.Searcher.lawful k.searcher (g.S.AnyStr.elements k.text)) to (state here) (state after) p st c.as_bytes-bytes.result.now piece gap c.as_bytes-bytes.ensures c.stretch.ensures c.gap_after.ensures in
+    let left = to_pour on to (state after) in
+    omega (arith, ap length parts, length-append piece (gap ++ left), length-append gap left)
 
 pub overflow_add-sum-in-Some : goal.overflow_add-sum-in-Some
-overflow_add-sum-in-Some g c = omega (arith, (turned g c).fits, c.bytes_len-gap.ensures)
-
-pub overflow_add-made : goal.overflow_add-made
-overflow_add-made g c = omega (arith, (turned g c).from, (turned g c).long, (turned g c).within, c.loop-mark.invariant.1)
-
-pub loop-mark-smaller : goal.loop-mark-smaller
-loop-mark-smaller g c = omega (arith, (turned g c).from, (turned g c).long, (turned g c).end)
-
-pub loop-mark-preserved : goal.loop-mark-preserved
-loop-mark-preserved g c = (omega (arith, (turned g c).again, c.bytes_len-gap.ensures), omega (arith, (turned g c).from, (turned g c).long, c.loop-mark.invariant.1))
-
-total : (g : given.Over) (c : goal.After-saturating_sub g)
-    → c.loop-mark.sum + c.saturating_sub.result
-    ≡ bytes_from (sheet g.F.Searcher.marks g.S.AnyStr.elements c.args.self.now) (concat (g.S.AnyStr.elements c.args.to.now)) c.args.self.now.made c.args.self.now.place
-total g c = omega (arith, ended (sheet g.F.Searcher.marks g.S.AnyStr.elements c.args.self.now) (concat (g.S.AnyStr.elements c.args.to.now)) _ _ _ _ c.in_default.ensures c.loop-mark.invariant.0, c.saturating_sub.ensures, c.bytes_len.ensures)
-
-pub overflow_add-result : goal.overflow_add-result
-overflow_add-result g c =
+overflow_add-sum-in-Some g c =
     let k = c.args.self.now in
-    omega (arith, total g c, poured-fits (sheet g.F.Searcher.marks g.S.AnyStr.elements k) (g.F.Searcher.lawful k.searcher (g.S.AnyStr.elements k.text)) (concat (g.S.AnyStr.elements c.args.to.now)) k.made k.place (g.S.AnyStr.few k.text) (g.S.AnyStr.few c.args.to.now))
+    let on = sheet g.F.Searcher.marks g.S.AnyStr.elements k in
+    omega (arith, turned g c, c.loop-piece.invariant.whole, to_pour-fits on (g.F.Searcher.lawful k.searcher (g.S.AnyStr.elements k.text)) (concat (g.S.AnyStr.elements c.args.to.now)) (state k) (g.S.AnyStr.few k.text) (g.S.AnyStr.few c.args.to.now))
 
-pub returns : goal.returns
-returns g c = let k = c.args.self.now in total g c ∙ needed-unspent (sheet g.F.Searcher.marks g.S.AnyStr.elements k) _ k.made k.place k.spent c.requires
+pub loop-piece-smaller : goal.loop-piece-smaller
+loop-piece-smaller g c =
+    let k = c.args.self.now in
+    let here = c.loop-piece.self in
+    let after = c.next.new.self in
+    let on = sheet g.F.Searcher.marks g.S.AnyStr.elements k in
+    let st = step_on g.F.Searcher.marks g.S.AnyStr.elements k here after (span c.in-Some.piece) c.loop-piece.invariant.same c.in-Some.ensures.step in
+    omega (arith, (gave on (g.F.Searcher.lawful k.searcher (g.S.AnyStr.elements k.text)) here.progress.place here.progress.made here.progress.spent (span c.in-Some.piece) (state after) st).left)
+
+pub loop-piece-preserved : goal.loop-piece-preserved
+loop-piece-preserved g c = record {
+  whole = omega (arith, turned g c, c.loop-piece.invariant.whole);
+  same = same_again c.args.self.now c.loop-piece.self c.next.new.self c.loop-piece.invariant.same c.in-Some.ensures.same;
+}

@@ -1,15 +1,17 @@
-use Rattle.std.proofs.Common.{◌≡◌, ◌+◌, ◌-◌, ◌≤◌, length}
+use Rattle.std.proofs.Common.{◌≡◌, ◌+◌, length}
 use Rattle.std.specs.List.{concat}
-use Rattle.cuts.specs.Cuts.{cut_from, poured}
-use Rattle.cutters.specs.Calls.{sheet}
+use Rattle.cuts.specs.Cuts.{pieces_left}
+use Rattle.cuts.proofs.Left.{to_pour}
+use Rattle.cutters.specs.Calls.{sheet, state, SameSheet}
 use Rattle.cutters.proofs.cutter.Cutter.measure.Given as goal
 
--- the sum so far, and the bytes from the place on, are the bytes of the whole rest
-abbrev pub invariant-loop-mark : goal.invariant-loop-mark
-invariant-loop-mark g l =
-    (l.sum + length (poured (concat (g.S.AnyStr.elements l.self.text)) (concat (g.S.AnyStr.elements l.to)) l.place (cut_from (sheet g.F.Searcher.marks g.S.AnyStr.elements l.self) l.made l.place))
-    ≡ length (poured (concat (g.S.AnyStr.elements l.self.text)) (concat (g.S.AnyStr.elements l.to)) l.self.place (cut_from (sheet g.F.Searcher.marks g.S.AnyStr.elements l.self) l.self.made l.self.place)))
-    × (l.made ≤ l.place)
+-- the sum so far, and the bytes still to be poured, are the bytes of the whole rest
+abbrev pub invariant-loop-piece : goal.invariant-loop-piece
+invariant-loop-piece g l = record {
+  whole : l.sum + length (to_pour (sheet g.F.Searcher.marks g.S.AnyStr.elements l.initial.self) (concat (g.S.AnyStr.elements l.to)) (state l.self))
+      ≡ length (to_pour (sheet g.F.Searcher.marks g.S.AnyStr.elements l.initial.self) (concat (g.S.AnyStr.elements l.to)) (state l.initial.self));
+  same : SameSheet l.initial.self l.self;
+}
 
-abbrev pub decreases-loop-mark : goal.decreases-loop-mark
-decreases-loop-mark g l = length (concat (g.S.AnyStr.elements l.self.text)) - l.place
+abbrev pub decreases-loop-piece : goal.decreases-loop-piece
+decreases-loop-piece g l = length (pieces_left (sheet g.F.Searcher.marks g.S.AnyStr.elements l.initial.self) (state l.self))

@@ -15,12 +15,12 @@ returns-then-not-fewer g c =
     let on = sheet g.F.Searcher.marks g.S.AnyStr.elements k in
     let law = g.F.Searcher.lawful k.searcher es in
     let fits : SFits w64 k.bound = search rules in
-    let used : fewer k.made k.bound ≡ _ = ap (fewer k.made) (sym (to_z-of_z w64 k.bound fits)) ∙ sym c.if-not-fewer.ensures in
+    let used : fewer k.progress.made k.bound ≡ _ = ap (fewer k.progress.made) (sym (to_z-of_z w64 k.bound fits)) ∙ sym c.if-not-fewer.ensures in
     let l = c.last.ensures in
     record {
-      step = rest-step on law k.place k.made k.spent c.if-self.false (used_up on law k.made k.place used) _ _ l.value l.after;
+      step = rest-step on law k.progress.place k.progress.made k.progress.spent c.if-self.false (used_up on law k.progress.made k.progress.place used) _ _ l.value l.after;
       same = l.same;
-      cut = λ b. let r = rest-on es k.place _ c.last.result l.value (λ i. (l.after i).place) b in (r.0, subst (λ t. Boundary (g.S.AnyStr.elements t) c.last.new.self.place) (sym l.same.text) r.1);
+      cut = λ b. let r = rest-on es k.progress.place _ c.last.result l.value (λ i. (l.after i).place) b in (r.0, subst (λ t. Boundary (g.S.AnyStr.elements t) c.last.new.self.progress.place) (sym l.same.text) r.1);
     }
 
 pub returns-in_default : goal.returns-in_default
@@ -31,9 +31,9 @@ returns-in_default g c =
     let law = g.F.Searcher.lawful k.searcher es in
     let l = c.last-in_default.ensures in
     record {
-      step = rest-step on law k.place k.made k.spent c.if-self.false (none_found on law k.made k.place c.in_default.ensures.value) _ _ l.value l.after;
+      step = rest-step on law k.progress.place k.progress.made k.progress.spent c.if-self.false (none_found on law k.progress.made k.progress.place c.in_default.ensures.value) _ _ l.value l.after;
       same = l.same;
-      cut = λ b. let r = rest-on es k.place _ c.last-in_default.result l.value (λ i. (l.after i).place) b in (r.0, subst (λ t. Boundary (g.S.AnyStr.elements t) c.last-in_default.new.self.place) (sym l.same.text) r.1);
+      cut = λ b. let r = rest-on es k.progress.place _ c.last-in_default.result l.value (λ i. (l.after i).place) b in (r.0, subst (λ t. Boundary (g.S.AnyStr.elements t) c.last-in_default.new.self.progress.place) (sym l.same.text) r.1);
     }
 
 pub invariant_of-self : goal.invariant_of-self
@@ -47,7 +47,7 @@ invariant_of-self g c =
     let inside = law.within _ _ m.is in
     let few = g.S.AnyStr.few k.text in
     let behind = k.behind c.if-self.false in
-    let more : k.made + 1 ≤ c.in-Some.mark.end = omega arith in
+    let more : k.progress.made + 1 ≤ c.in-Some.mark.end = omega arith in
     record { few = omega arith; behind = λ _. more }
 
 pub returns : goal.returns
@@ -57,10 +57,10 @@ returns g c =
     let on = sheet g.F.Searcher.marks g.S.AnyStr.elements k in
     let law = g.F.Searcher.lawful k.searcher es in
     let fits : SFits w64 k.bound = search rules in
-    let more : fewer k.made k.bound ≡ true = ap (fewer k.made) (sym (to_z-of_z w64 k.bound fits)) ∙ sym c.if-not-fewer.ensures in
+    let more : fewer k.progress.made k.bound ≡ true = ap (fewer k.progress.made) (sym (to_z-of_z w64 k.bound fits)) ∙ sym c.if-not-fewer.ensures in
     let m = c.in-Some.ensures in
     record {
-      step = cut_step on law k.place k.made k.spent c.if-self.false c.in-Some.mark.start c.in-Some.mark.end (truth _ more) m.value;
+      step = cut_step on law k.progress.place k.progress.made k.progress.spent c.if-self.false c.in-Some.mark.start c.in-Some.mark.end (truth _ more) m.value;
       same = record { text = refl; searcher = refl; bound = refl };
       cut = λ b. ((b, m.cut.0), m.cut.1);
     }

@@ -1,4 +1,4 @@
-use Rattle.std.proofs.Common.{◌≡◌, refl, w64, to_z, of_z}
+use Rattle.std.proofs.Common.{◌≡◌, sym, refl, w64, to_z, of_z}
 use Rattle.std.proofs.lemmas.Int.{to_z-of_z}
 use Rattle.cuts.proofs.Runs.{runs-law}
 use Rattle.cutters.proofs.cutter.Cutter.open.Goals as goal
@@ -10,7 +10,7 @@ returns g c =
     let same : to_z w64 (of_z w64 c.args.bound) ≡ c.args.bound = to_z-of_z w64 c.args.bound c.ranges.bound in
     record {
       on = (refl, refl, same);
-      state = refl;
+      state = c.from_place.ensures;
       law = runs-law _ (g.F.Searcher.lawful f es);
-      cut = (0, refl);
+      cut = (0, λ i. (sym c.from_place.ensures i).place);
     }

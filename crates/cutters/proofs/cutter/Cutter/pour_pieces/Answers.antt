@@ -1,93 +1,74 @@
-use Rattle.std.proofs.Common.{sym, ◌∙◌, arith}
+use Rattle.std.proofs.Common.{List, ℕ, cond, [], sym, refl, ◌∙◌, arith}
 use Rattle.std.specs.List.{concat}
-use Rattle.anystr.specs.OfBytes.{singles}
-use Rattle.cuts.proofs.Left.{gave}
+use Rattle.cuts.proofs.Left.{to_pour, gave}
 use Rattle.cutters.specs.Calls.{sheet, state, span}
-use Rattle.cutters.proofs.Pouring.{piece-fits, last-poured, gap_fits, gap_poured}
+use Rattle.cutters.proofs.Pouring.{piece-fits, gap_fits, gap_poured}
 use Rattle.cutters.proofs.Same.{same_again, step_on}
-use Rattle.cutters.proofs.Stretches.{piece_bytes}
+use Rattle.cutters.proofs.Turns.{turn}
 use Rattle.cutters.proofs.cutter.Cutter.pour_pieces.Goals as goal
 
-pub append-requires : goal.append-requires
-append-requires g c =
+pub append-requires-clause-fits : goal.append-requires-clause-fits
+append-requires-clause-fits g c =
     let k = c.args.self.now in
     let here = c.loop-piece.self in
     let after = c.next.new.self in
-    let marks = g.F.Searcher.marks in
-    let elements = g.S.AnyStr.elements in
-    let on = sheet marks elements k in
-    let law = g.F.Searcher.lawful k.searcher (elements k.text) in
+    let to = concat (g.S.AnyStr.elements c.args.to.now) in
+    let on = sheet g.F.Searcher.marks g.S.AnyStr.elements k in
+    let law = g.F.Searcher.lawful k.searcher (g.S.AnyStr.elements k.text) in
     let p = span c.in-Some.piece in
-    let st = step_on marks elements k here after p c.loop-piece.invariant.3 c.in-Some.ensures.step in
-    let bytes = concat (singles c.new.result.bytes.now) in
-    let is = piece_bytes _ c.stretch.result.now c.as_bytes-bytes.result.now (concat (elements k.text)) p.0 p.1 c.stretch.ensures c.as_bytes-bytes.ensures (g.S.AnyStr.few k.text) c.new.ensures.given in
-    piece-fits on law (concat (elements c.args.to.now)) (state here) (state after) p st _ _ _ _ _ c.loop-piece.invariant.0 bytes is
+    let inv = c.loop-piece.invariant in
+    let st = step_on g.F.Searcher.marks g.S.AnyStr.elements k here after p inv.same c.in-Some.ensures.step in
+    let piece = c.stretch.result.now in
+    let gap : List ℕ = cond after.progress.spent [] to in
+    let left = to_pour on to (state after) in
+    let parts = turn on law to (state here) (state after) p st c.as_bytes-bytes.result.now piece gap c.as_bytes-bytes.ensures c.stretch.ensures refl in
+    piece-fits _ _ _ piece gap left _ _ _ inv.poured parts
 
-pub append-requires-then-not-self : goal.append-requires-then-not-self
-append-requires-then-not-self g c =
+pub append-requires-in-Some-clause-fits : goal.append-requires-in-Some-clause-fits
+append-requires-in-Some-clause-fits g c =
     let k = c.args.self.now in
     let here = c.loop-piece.self in
     let after = c.next.new.self in
-    let marks = g.F.Searcher.marks in
-    let elements = g.S.AnyStr.elements in
-    let on = sheet marks elements k in
-    let law = g.F.Searcher.lawful k.searcher (elements k.text) in
+    let to = concat (g.S.AnyStr.elements c.args.to.now) in
+    let on = sheet g.F.Searcher.marks g.S.AnyStr.elements k in
+    let law = g.F.Searcher.lawful k.searcher (g.S.AnyStr.elements k.text) in
     let p = span c.in-Some.piece in
-    let st = step_on marks elements k here after p c.loop-piece.invariant.3 c.in-Some.ensures.step in
-    let bytes = concat (singles c.new.result.bytes.now) in
-    let is = piece_bytes _ c.stretch.result.now c.as_bytes-bytes.result.now (concat (elements k.text)) p.0 p.1 c.stretch.ensures c.as_bytes-bytes.ensures (g.S.AnyStr.few k.text) c.new.ensures.given in
-    gap_fits on law (concat (elements c.args.to.now)) (state here) (state after) p st _ _ _ _ _ c.loop-piece.invariant.0 bytes is (g.T.AnyStrContainer.held c.append.new.tray) (g.T.AnyStrContainer.spare c.append.new.tray) c.append.ensures.held c.append.ensures.spare c.if-not-self.true
+    let inv = c.loop-piece.invariant in
+    let st = step_on g.F.Searcher.marks g.S.AnyStr.elements k here after p inv.same c.in-Some.ensures.step in
+    let piece = c.stretch.result.now in
+    let gap = c.gap_after.result.now in
+    let left = to_pour on to (state after) in
+    let parts = turn on law to (state here) (state after) p st c.as_bytes-bytes.result.now piece gap c.as_bytes-bytes.ensures c.stretch.ensures c.gap_after.ensures in
+    gap_fits _ _ _ piece gap left _ _ _ inv.poured parts _ _ c.append.ensures.held c.append.ensures.spare
 
-pub loop-piece-smaller-then-not-self : goal.loop-piece-smaller-then-not-self
-loop-piece-smaller-then-not-self g c =
+pub loop-piece-smaller : goal.loop-piece-smaller
+loop-piece-smaller g c =
     let k = c.args.self.now in
     let here = c.loop-piece.self in
     let after = c.next.new.self in
-    let marks = g.F.Searcher.marks in
-    let elements = g.S.AnyStr.elements in
-    let on = sheet marks elements k in
-    let law = g.F.Searcher.lawful k.searcher (elements k.text) in
-    let p = span c.in-Some.piece in
-    let st = step_on marks elements k here after p c.loop-piece.invariant.3 c.in-Some.ensures.step in
-    let one = (gave on law here.place here.made here.spent p (state after) st).left in
-    omega arith
-
-pub loop-piece-preserved-then-not-self : goal.loop-piece-preserved-then-not-self
-loop-piece-preserved-then-not-self g c =
-    let k = c.args.self.now in
-    let here = c.loop-piece.self in
-    let after = c.next.new.self in
-    let marks = g.F.Searcher.marks in
-    let elements = g.S.AnyStr.elements in
-    let on = sheet marks elements k in
-    let law = g.F.Searcher.lawful k.searcher (elements k.text) in
-    let p = span c.in-Some.piece in
-    let st = step_on marks elements k here after p c.loop-piece.invariant.3 c.in-Some.ensures.step in
-    let bytes = concat (singles c.new.result.bytes.now) in
-    let is = piece_bytes _ c.stretch.result.now c.as_bytes-bytes.result.now (concat (elements k.text)) p.0 p.1 c.stretch.ensures c.as_bytes-bytes.ensures (g.S.AnyStr.few k.text) c.new.ensures.given in
-    let one = gave on law here.place here.made here.spent p (state after) st in (
-      gap_poured on law (concat (elements c.args.to.now)) (state here) (state after) p st _ _ _ _ _ c.loop-piece.invariant.0 bytes is (g.T.AnyStrContainer.held c.append.new.tray) (g.T.AnyStrContainer.spare c.append.new.tray) c.append.ensures.held c.append.ensures.spare c.if-not-self.true _ _ c.append-then-not-self.ensures.held c.append-then-not-self.ensures.spare,
-      sym one.made_all ∙ c.loop-piece.invariant.1,
-      one.ended,
-      same_again k here after c.loop-piece.invariant.3 c.in-Some.ensures.same,
-    )
+    let on = sheet g.F.Searcher.marks g.S.AnyStr.elements k in
+    let st = step_on g.F.Searcher.marks g.S.AnyStr.elements k here after (span c.in-Some.piece) c.loop-piece.invariant.same c.in-Some.ensures.step in
+    omega (arith, (gave on (g.F.Searcher.lawful k.searcher (g.S.AnyStr.elements k.text)) here.progress.place here.progress.made here.progress.spent (span c.in-Some.piece) (state after) st).left)
 
 pub loop-piece-preserved : goal.loop-piece-preserved
 loop-piece-preserved g c =
     let k = c.args.self.now in
     let here = c.loop-piece.self in
     let after = c.next.new.self in
-    let marks = g.F.Searcher.marks in
-    let elements = g.S.AnyStr.elements in
-    let on = sheet marks elements k in
-    let law = g.F.Searcher.lawful k.searcher (elements k.text) in
+    let to = concat (g.S.AnyStr.elements c.args.to.now) in
+    let on = sheet g.F.Searcher.marks g.S.AnyStr.elements k in
+    let law = g.F.Searcher.lawful k.searcher (g.S.AnyStr.elements k.text) in
     let p = span c.in-Some.piece in
-    let st = step_on marks elements k here after p c.loop-piece.invariant.3 c.in-Some.ensures.step in
-    let bytes = concat (singles c.new.result.bytes.now) in
-    let is = piece_bytes _ c.stretch.result.now c.as_bytes-bytes.result.now (concat (elements k.text)) p.0 p.1 c.stretch.ensures c.as_bytes-bytes.ensures (g.S.AnyStr.few k.text) c.new.ensures.given in
-    let one = gave on law here.place here.made here.spent p (state after) st in (
-      last-poured on law (concat (elements c.args.to.now)) (state here) (state after) p st _ _ _ _ _ c.loop-piece.invariant.0 bytes is (g.T.AnyStrContainer.held c.append.new.tray) (g.T.AnyStrContainer.spare c.append.new.tray) c.append.ensures.held c.append.ensures.spare c.if-not-self.false,
-      sym one.made_all ∙ c.loop-piece.invariant.1,
-      one.ended,
-      same_again k here after c.loop-piece.invariant.3 c.in-Some.ensures.same,
-    )
+    let inv = c.loop-piece.invariant in
+    let st = step_on g.F.Searcher.marks g.S.AnyStr.elements k here after p inv.same c.in-Some.ensures.step in
+    let piece = c.stretch.result.now in
+    let gap = c.gap_after.result.now in
+    let left = to_pour on to (state after) in
+    let parts = turn on law to (state here) (state after) p st c.as_bytes-bytes.result.now piece gap c.as_bytes-bytes.ensures c.stretch.ensures c.gap_after.ensures in
+    let one = gave on law here.progress.place here.progress.made here.progress.spent p (state after) st in
+    record {
+      poured = gap_poured _ _ _ piece gap left _ _ _ inv.poured parts _ _ c.append.ensures.held c.append.ensures.spare _ _ c.append-in-Some.ensures.held c.append-in-Some.ensures.spare;
+      made = sym one.made_all ∙ inv.made;
+      ended = one.ended;
+      same = same_again k here after inv.same c.in-Some.ensures.same;
+    }

@@ -7,6 +7,6 @@ pub returns : goal.returns
 returns g c =
     let es = g.S.AnyStr.elements c.args.self.now.text in
     record {
-      step = ((λ i. (c.args.self.now.place, c.bytes_len.ensures i)), refl);
+      step = ((λ i. (c.args.self.now.progress.place, c.bytes_len.ensures i)), refl);
       cut = λ b. (b, subst (Boundary es) (sym c.bytes_len.ensures) (end_on es));
     }

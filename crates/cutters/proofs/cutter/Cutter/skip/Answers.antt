@@ -5,18 +5,18 @@ use Rattle.cutters.specs.Calls.{sheet, state, span}
 use Rattle.cutters.proofs.Same.{same_again, step_on}
 use Rattle.cutters.proofs.cutter.Cutter.skip.Goals as goal
 
-pub loop-done-preserved : goal.loop-done-preserved
-loop-done-preserved g c =
+pub loop-left-preserved : goal.loop-left-preserved
+loop-left-preserved g c =
     let k = c.args.self.now in
-    let here = c.loop-done.self in
+    let here = c.loop-left.self in
     let after = c.next.new.self in
-    let n : ℕ = c.loop-done.done in
-    let inv = c.loop-done.invariant in
+    let n : ℕ = c.loop-left.left in
+    let inv = c.loop-left.invariant in
     let on = sheet g.F.Searcher.marks g.S.AnyStr.elements k in
     let law = g.F.Searcher.lawful k.searcher (g.S.AnyStr.elements k.text) in
     let e = c.in-Some.ensures in
     let st = step_on g.F.Searcher.marks g.S.AnyStr.elements k here after (span c.in-Some.field-0) inv.2 e.step in
-    let one = (gave on law here.place here.made here.spent _ (state after) st).left in (
+    let one = (gave on law here.progress.place here.progress.made here.progress.spent _ (state after) st).left in (
       st.1 ∙ ((λ i. (next_of on (inv.0 i)).1) ∙ (sym (nexts-more on n (state k)) ∙ (λ i. nexts on (sym (add-one n) i) (state k)))),
       omega (arith, inv.1),
       same_again k here after inv.2 e.same,

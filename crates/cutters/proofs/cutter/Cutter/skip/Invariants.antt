@@ -4,10 +4,10 @@ use Rattle.cutters.specs.Calls.{sheet, state, SameSheet, Placed}
 use Rattle.cutters.proofs.cutter.Cutter.skip.Given as goal
 
 -- as many nexts are done as turns, and each gave a piece
-abbrev pub invariant-loop-done : goal.invariant-loop-done
-invariant-loop-done g l =
-    (state l.self ≡ nexts (sheet g.F.Searcher.marks g.S.AnyStr.elements l.initial.self) l.done (state l.initial.self))
-    × (l.done + length (pieces_left (sheet g.F.Searcher.marks g.S.AnyStr.elements l.initial.self) (state l.self))
+abbrev pub invariant-loop-left : goal.invariant-loop-left
+invariant-loop-left g l =
+    (state l.self ≡ nexts (sheet g.F.Searcher.marks g.S.AnyStr.elements l.initial.self) l.left (state l.initial.self))
+    × (l.left + length (pieces_left (sheet g.F.Searcher.marks g.S.AnyStr.elements l.initial.self) (state l.self))
     ≡ length (pieces_left (sheet g.F.Searcher.marks g.S.AnyStr.elements l.initial.self) (state l.initial.self)))
     × SameSheet l.initial.self l.self
     × (Placed g.S.AnyStr.elements l.initial.self → Placed g.S.AnyStr.elements l.self)
