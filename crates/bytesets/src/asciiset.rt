@@ -1,7 +1,8 @@
 // A set of bytes below 128, and the search for them in every kind of text that keeps such bytes apart.
-ghost use Rattle.std.specs.Prelude.{◌≡◌, ℕ, false};
+ghost use Rattle.std.specs.Prelude.{◌≡◌, ℕ, false, MatchResult};
+ghost use Rattle.anystr.specs.Refusals.{code};
 ghost use Rattle.std.specs.List.{concat};
-ghost use Rattle.bytesets.specs.Sets.{among, member, single, single-lawful, Ascii, AllLow, AsciiChecked};
+ghost use Rattle.bytesets.specs.Sets.{among, member, single, single-lawful, LeastHigh, Ascii, AllLow, AsciiChecked};
 ghost use Rattle.bytesets.specs.OnText.{low-bounded};
 
 use super::byteset::ByteSet;
@@ -20,14 +21,27 @@ pub struct AsciiSet {
     ghost low: { AllLow set.has },
 }
 
+impl<'a> TryFrom<&'a [u8]> for AsciiSet {
+    type Error = Refusal;
+
+    ghost try_from_gives = { λ bytes r. MatchResult r (λ s. Ascii bytes.now × ((b : ℕ) → member s.set.has b ≡ among bytes.now b)) (λ e. (n : ℕ) × LeastHigh bytes.now n × (code e ≡ (11, n))) };
+
+    // The set of these bytes; refused where one is not below 128.
+    fn try_from(bytes: &'a [u8]) -> Result<AsciiSet, Refusal> {
+        let set = ByteSet::new(bytes);
+        match set.least_from(FIRST_NON_ASCII) {
+            Some(least) => Err(Refusal::NotAscii { least }),
+            None => Ok(AsciiSet { set }),
+        }
+    }
+}
+
 impl AsciiSet {
     // Whether all the bytes are below 128.
     pub fn check(bytes: &[u8]) -> Result<(), Refusal>
         ensures { AsciiChecked bytes.now result }
     {
-        ByteSet::new(bytes)
-            .least_from(FIRST_NON_ASCII)
-            .map_or(Ok(()), |least| Err(Refusal::NotAscii { least }))
+        AsciiSet::try_from(bytes).map(|_| ())
     }
 
     // The set of these bytes; the empty set where `check` refuses.
@@ -35,14 +49,9 @@ impl AsciiSet {
         ensures given { Ascii bytes.now → (b : ℕ) → member result.set.has b ≡ among bytes.now b }
         ensures refused { (Ascii bytes.now → ⊥) → (b : ℕ) → member result.set.has b ≡ false }
     {
-        let Ok(()) = AsciiSet::check(bytes) else {
-            return AsciiSet {
-                set: ByteSet::new(&[]),
-            };
-        };
-        AsciiSet {
-            set: ByteSet::new(bytes),
-        }
+        AsciiSet::try_from(bytes).unwrap_or(AsciiSet {
+            set: ByteSet::new(&[]),
+        })
     }
 }
 
@@ -64,6 +73,7 @@ impl AsciiPattern for AsciiSet {
     ghost bounded = { λ f. low-bounded f.set.has f.low };
 }
 
+// As `LineEnds` has them, in a line each; `first_ascii_mark` says why no impl serves both.
 impl<S: AsciiStr> Searcher<S> for AsciiSet {
     ghost marks = { λ f es. single (member f.set.has) (concat es) };
 

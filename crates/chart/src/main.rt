@@ -47,7 +47,8 @@ fn read_sheet(rt: &HostRuntime) -> io::Result<Vec<u8>> {
     Ok(bytes)
 }
 
-// Shows the sheet by its characters where it is well-formed text, and else by its bytes.
+// Shows the sheet by its characters where it is well-formed text, and else by its bytes. A match, here and where else
+// bytes may be text: no closure takes both kinds.
 fn show<W: Write>(page: &mut Page<W>, sheet: Bytes<'_>) -> Result<(), Stop> {
     match Text::try_from(sheet.as_bytes()) {
         Ok(text) => show_sheet(page, text, Ok(())),
@@ -114,6 +115,7 @@ fn run(rt: &HostRuntime) -> Result<(), Trouble> {
     }
 }
 
+// As in `replay`, with this program's name: no crate lies between the two.
 fn main(rt: HostRuntime) -> ExitCode {
     match run(&rt) {
         Ok(()) => ExitCode::SUCCESS,

@@ -94,11 +94,13 @@ impl<W: Write> Page<W> {
         self.out.write_all(b"\n")
     }
 
+    // In the form of this page, and by no `Display`: `replay` has another.
     fn place(&mut self, place: Place) -> io::Result<()> {
         let Place { start, end } = place;
         writeln!(self.out, "{start}..{end}")
     }
 
+    // In words of its own, and by no `Display`: `replay` writes numbers alone.
     pub fn refused(&mut self, refusal: Refusal) -> io::Result<()> {
         let (number, value) = refusal.code();
         writeln!(self.out, "refused ({number}) with {value}")

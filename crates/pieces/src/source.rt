@@ -33,6 +33,7 @@ pub trait Pieces: Iterator<Item = Piece> {
     ghost counts: { (s : Self) → Self.remaining s ≡ item_count left s };
 }
 
+// The last three, as in each source of pieces: the proof of a law is the impl's and cannot be inherited.
 impl<S: AnyStr, F: Searcher<S> + Drop> Pieces for PiecesLeft<S, F> {
     ghost left = { λ s. left_of F.Searcher.marks S.AnyStr.elements s.cutter };
 

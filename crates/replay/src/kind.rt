@@ -39,8 +39,7 @@ impl<'a> Kind<'a> for Text<'a> {
     type Set = AsciiSet;
 
     fn make_set(bytes: &[u8]) -> Result<AsciiSet, Refusal> {
-        AsciiSet::check(bytes)?;
-        Ok(AsciiSet::new(bytes))
+        AsciiSet::try_from(bytes)
     }
 
     fn write_element(element: char, page: &mut String) -> Result<(), AllocError> {

@@ -19,7 +19,7 @@ pub struct Substring<S: AnyStr> {
 }
 
 impl<S: AnyStr> Substring<S> {
-    // Whether there is something to look for.
+    // Whether there is something to look for. A check beside the making, as texts have, so that the making never fails.
     pub fn check(needle: &S) -> Result<(), Refusal>
         ensures { PassesIf (0 < length (concat (S.AnyStr.elements needle.now))) (1, 0) result }
     {
