@@ -1,4 +1,4 @@
-use Rattle.std.proofs.Common.{◌≡◌, ◌+◌, ◌≤◌, true, sym, refl, ap, ◌∙◌, subst, arith, w64, SFits, rules}
+use Rattle.std.proofs.Common.{◌≡◌, true, sym, refl, ap, ◌∙◌, subst, w64, SFits, rules}
 use Rattle.std.proofs.lemmas.Int.{to_z-of_z}
 use Rattle.anystr.specs.Elements.{Boundary}
 use Rattle.searchers.specs.Truth.{truth}
@@ -35,20 +35,6 @@ returns-in_default g c =
       same = l.same;
       cut = λ b. let r = rest-on es k.progress.place _ c.last-in_default.result l.value (λ i. (l.after i).place) b in (r.0, subst (λ t. Boundary (g.S.AnyStr.elements t) c.last-in_default.new.self.progress.place) (sym l.same.text) r.1);
     }
-
-pub invariant_of-self : goal.invariant_of-self
-invariant_of-self g c =
-    let k = c.args.self.now in
-    let es = g.S.AnyStr.elements k.text in
-    let law = g.F.Searcher.lawful k.searcher es in
-    let m = c.in-Some.ensures.value in
-    let from = m.after in
-    let long = law.nonempty _ _ m.is in
-    let inside = law.within _ _ m.is in
-    let few = g.S.AnyStr.few k.text in
-    let behind = k.behind c.if-self.false in
-    let more : k.progress.made + 1 ≤ c.in-Some.mark.end = omega arith in
-    record { few = omega arith; behind = λ _. more }
 
 pub returns : goal.returns
 returns g c =
