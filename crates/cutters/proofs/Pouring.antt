@@ -30,15 +30,9 @@ module _ (held spare rest piece gap rest' all spare₀ : List ℕ) (total : ℕ)
   split : Pouring held spare (piece ++ (gap ++ rest')) all spare₀ total
   split = rw parts at so_far
 
-  pub piece-fits : length piece ≤ length spare
-  piece-fits = omega (arith, split.room, length-append piece (gap ++ rest'))
-
   module _ (held' spare' : List ℕ) (eh : held' ≡ held ++ piece) (es : spare' ≡ drop (length piece) spare) where
     between : Pouring held' spare' (gap ++ rest') all spare₀ total
     between = pushed held spare piece (gap ++ rest') all spare₀ held' spare' total split eh es
-
-    pub gap_fits : length gap ≤ length spare'
-    gap_fits = omega (arith, between.room, length-append gap rest')
 
     pub gap_poured : (held'' spare'' : List ℕ) → held'' ≡ held' ++ gap → spare'' ≡ drop (length gap) spare' → Pouring held'' spare'' rest' all spare₀ total
     gap_poured held'' spare'' fh fs = pushed held' spare' gap rest' all spare₀ held'' spare'' total between fh fs

@@ -17,19 +17,6 @@ returns-then-free-needed g c =
       cut = placed_same g.S.AnyStr.elements c.args.self.now c.measure-needed.new.self m.same m.after;
     }
 
-pub pour_pieces-requires : goal.pour_pieces-requires
-pour_pieces-requires g c =
-    let k = c.args.self.now in
-    let d = c.measure-needed.new.self in
-    let m = c.measure-needed.ensures in
-    let to = concat (g.S.AnyStr.elements c.args.to.now) in
-    let on = same_sheet g.F.Searcher.marks g.S.AnyStr.elements k d m.same in
-    let all = ap length (λ i. needed (on i) to (m.after i)) in
-    record {
-      unspent = (λ i. (m.after i).spent) ∙ c.if-self.false;
-      fits = omega (arith, all, c.if-free-needed.false, c.free.ensures, m.value);
-    }
-
 pub returns : goal.returns
 returns g c =
     let k = c.args.self.now in
