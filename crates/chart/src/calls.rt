@@ -1,30 +1,64 @@
 // What calls on a cutter of a row's fields give.
 use super::page::Page;
 use super::row::Row;
+use super::stop::Stop;
 use anystr::anystr::AnyStr;
-use cutters::play::Call;
-use std::io;
+use cutters::bound::UNBOUNDED;
+use cutters::play::{Answer, Call, play};
+use std::alloc::{AllocError, Global};
 use std::io::Write;
 use trays::label::Label;
 
-// Skips the first field, and shows the rest, the next field, and the remainder poured into a label.
-// Not a loop over a list of calls: an array of a generic type has no size that a proof could bound.
-pub fn show_calls<W: Write, S: AnyStr>(page: &mut Page<W>, row: &Row<S>) -> io::Result<()> {
-    let mut fields = row.fields();
+// Plays the calls on the row's fields, and shows each answer under its name. What is poured goes into a label.
+fn show_played<W: Write, S: AnyStr>(
+    page: &mut Page<W>,
+    row: &Row<S>,
+    names: &[&str],
+    calls: &[Call<S>],
+) -> Result<(), Stop> {
+    let mut answers = vec![in page.heap; Answer::Next(None); calls.len()]?;
     let mut label = Label::new();
-    let skipped = fields.answer(Call::Skip(1), &mut label);
-    page.answer("skip 1", skipped, row, &label)?;
-    let rest = fields.answer(Call::Rest, &mut label);
-    page.answer("rest", rest, row, &label)?;
-    let next = fields.answer(Call::Next, &mut label);
-    page.answer("next", next, row, &label)?;
-    let poured = fields.answer(Call::Pour(row.gap), &mut label);
-    page.answer("pour", poured, row, &label)
+    play(
+        row.text,
+        row.comma,
+        UNBOUNDED,
+        calls,
+        &mut label,
+        answers.as_mut_slice(),
+    )?;
+    for (name, answer) in names.iter().zip(answers.as_slice()) {
+        page.answer(name, *answer, row, &label)?;
+    }
+    Ok(())
 }
 
-// The whole row poured into a label.
-pub fn show_label<W: Write, S: AnyStr>(page: &mut Page<W>, row: &Row<S>) -> io::Result<()> {
-    let mut label = Label::new();
-    let poured = row.fields().answer(Call::Pour(row.gap), &mut label);
-    page.answer("label", poured, row, &label)
+// The first field skipped, the rest, the next field, and the remainder poured. Pushed one by one: an array of a generic
+// type has no size that a proof could bound.
+fn part_calls<S: AnyStr>(heap: Global, gap: S) -> Result<Vec<Call<S>>, AllocError> {
+    let mut calls = Vec::new(heap);
+    calls.push(Call::Skip(1))?;
+    calls.push(Call::Rest)?;
+    calls.push(Call::Next)?;
+    calls.push(Call::Pour(gap))?;
+    Ok(calls)
+}
+
+// The whole row poured.
+fn whole_calls<S: AnyStr>(heap: Global, gap: S) -> Result<Vec<Call<S>>, AllocError> {
+    let mut calls = Vec::new(heap);
+    calls.push(Call::Pour(gap))?;
+    Ok(calls)
+}
+
+// Shows what is left of the row after its first field.
+pub fn show_calls<W: Write, S: AnyStr>(page: &mut Page<W>, row: &Row<S>) -> Result<(), Stop> {
+    let calls = part_calls(page.heap, row.gap)?;
+    let names = ["skip 1", "rest", "next", "pour"];
+    show_played(page, row, &names, calls.as_slice())
+}
+
+// Shows the whole row poured into a label.
+pub fn show_label<W: Write, S: AnyStr>(page: &mut Page<W>, row: &Row<S>) -> Result<(), Stop> {
+    let calls = whole_calls(page.heap, row.gap)?;
+    show_played(page, row, &["label"], calls.as_slice())
 }

@@ -42,7 +42,7 @@ fn show_rows<W: Write, S: AsciiStr>(
     sheet: S,
     comma: Substring<S>,
     gap: S,
-) -> io::Result<Tally> {
+) -> Result<Tally, Stop> {
     let len = sheet.bytes_len();
     let rows = Cutter::open(sheet, LineEnds, UNBOUNDED).pieces();
     let mut tally = Tally::default();

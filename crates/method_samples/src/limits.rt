@@ -1,6 +1,6 @@
-// Texts, needles and lists of places at the limits and one beyond.
+// Needles and lists of places at the limits and one beyond; texts have theirs in `samples`.
 use super::codes::{Code, code};
-use anystr::anystr::{AnyStr, MAX_BYTES};
+use anystr::anystr::MAX_BYTES;
 use anystr::bytes::Bytes;
 use anystr::place::Place;
 use bytesinner::{find, join};
@@ -8,7 +8,6 @@ use finds::either::Either;
 use finds::options::ByteInnerFindOptions;
 use joins::MAX_PLACES;
 use std::test::Fail;
-use text::Text;
 use trays::label::Label;
 
 const TOO_LONG: Code = Err((6, 0));
@@ -25,22 +24,8 @@ fn sought<'a>(text: &'a [u8], sub: &'a [u8]) -> Code {
 }
 
 #[test]
-fn the_longest_text(rt: HostRuntime) -> Result<(), Fail> {
-    let longest = vec![in rt.alloc(); b'a'; MAX_BYTES]?;
-    assert_eq!(rt; code(Bytes::check(longest.as_slice())), Ok(()));
-    assert_eq!(rt; code(Text::check(longest.as_slice())), Ok(()));
-    assert_eq!(rt; Bytes::new(longest.as_slice()).bytes_len(), MAX_BYTES);
-    assert_eq!(rt; Text::new(longest.as_slice()).element_count(), MAX_BYTES);
-    Ok(())
-}
-
-#[test]
-fn a_byte_too_many(rt: HostRuntime) -> Result<(), Fail> {
+fn a_needle_too_long(rt: HostRuntime) -> Result<(), Fail> {
     let longer = vec![in rt.alloc(); b'a'; MAX_BYTES + 1]?;
-    assert_eq!(rt; code(Bytes::check(longer.as_slice())), TOO_LONG);
-    assert_eq!(rt; code(Text::check(longer.as_slice())), TOO_LONG);
-    assert_eq!(rt; Bytes::new(longer.as_slice()).bytes_len(), 0);
-    assert_eq!(rt; Text::new(longer.as_slice()).bytes_len(), 0);
     assert_eq!(rt; sought(b"a", longer.as_slice()), TOO_LONG);
     Ok(())
 }

@@ -1,9 +1,7 @@
 -- What the passes of replace leave in the tray.
-use Rattle.std.proofs.Common.{◌≡◌, ℕ, ◌+◌, ◌*◌, ◌≤◌, true, false, List, length, ℤ, pos, negsuc, Some, None, Ok, Err, Result, sym, ap, ◌∙◌, subst, arith}
+use Rattle.std.proofs.Common.{◌≡◌, ℕ, ◌+◌, ◌*◌, ◌≤◌, List, length, ℤ, pos, Some, None, Ok, Err, Result, sym, ap, ◌∙◌, subst}
 use mathlib.Core.Bool.{false≢true}
-use lib.Signed.{lt_z}
 use Rattle.std.specs.List.{concat}
-use Rattle.std.proofs.lemmas.Bool.{ltb-false}
 use Rattle.anystr.specs.Elements.{Filled}
 use Rattle.anystr.specs.Limits.{most_bytes}
 use Rattle.anystr.specs.declared.anystr.AnyStr
@@ -19,7 +17,7 @@ use Rattle.cuts.specs.Cuts.{Sheet, opened, State, cut_from, poured}
 use Rattle.cuts.specs.Runs.{needed}
 use Rattle.cutters.specs.Calls.{sheet, state, Pours}
 use Rattle.cutters.specs.declared.cutter.Cutter.{Cutter}
-use Rattle.replaces.specs.Replaces.{most_result, unbounded, bound_of, spread, copies, sheet_of, cut_out, if_short}
+use Rattle.replaces.specs.Replaces.{most_result, bound_of, spread, copies, sheet_of, cut_out, if_short}
 use Rattle.replaces.proofs.Law.{spread-long, spread-within, cut-within, short, is-short}
 
 -- a pour from a cutter just opened
@@ -57,14 +55,6 @@ module _ (es : List (List ℕ)) (to : List ℕ) (bound : ℤ) (n len gap : ℕ) 
 pub cut_short : (es : List (List ℕ)) (from to : List ℕ) (bound : ℤ) → length (concat es) ≤ most_bytes → length to ≤ most_bytes → length (cut_out es from to bound) ≤ most_result
 cut_short es from to bound few some = short (cut_out es from to bound) (concat es) to few some (cut-within es from to bound)
 
--- the bound of a maxcount by its sign
+-- the bound of maxcount 0
 pub bound-zero : (maxcount : OptionalArg ℤ) (z : ℤ) → maxcount ≡ Present z → z ≡ pos 0 → bound_of maxcount ≡ pos 0
 bound-zero maxcount z is zero = ap bound_of is ∙ ap (λ k. bound_of (Present k)) zero
-
-pub bound-above : (maxcount : OptionalArg ℤ) (z : ℤ) → maxcount ≡ Present z → lt_z (pos 0) z ≡ true → bound_of maxcount ≡ z
-bound-above maxcount (pos n) is lt = ap bound_of is
-bound-above maxcount (negsuc n) is lt = absurd (false≢true lt)
-
-pub bound-below : (maxcount : OptionalArg ℤ) (z : ℤ) → maxcount ≡ Present z → (z ≡ pos 0 → ⊥) → lt_z (pos 0) z ≡ false → bound_of maxcount ≡ unbounded
-bound-below maxcount (pos n) is some le = absurd (some (let z : n ≡ 0 = omega (arith, ltb-false 0 n le) in ap pos z))
-bound-below maxcount (negsuc n) is some le = ap bound_of is

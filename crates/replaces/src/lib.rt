@@ -120,8 +120,9 @@ pub fn replace<S: AnyStr, T: AnyStrContainer>(
     let bound = match maxcount {
         OptionalArg::Present(count) if count == 0 => return tray.push_str(text),
         OptionalArg::Present(count) if count > 0 => count,
-        OptionalArg::Present(_) => UNBOUNDED,
-        OptionalArg::Missing => UNBOUNDED,
+        OptionalArg::Present(count) if count < 0 => UNBOUNDED,
+        // `Missing` alone: no number is left, which guards do not tell Rust
+        _ => UNBOUNDED,
     };
     let replacement = Replacement {
         text: *text,

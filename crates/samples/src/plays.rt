@@ -1,36 +1,55 @@
 // A list of calls, made in turn on one cutter.
+use super::answers::{Code, code};
 use anystr::bytes::Bytes;
 use anystr::refusal::Refusal;
 use cutters::bound::UNBOUNDED;
+use cutters::piece::Piece;
 use cutters::play::{Answer, Call, play};
 use substring::Substring;
 use trays::label::Label;
 
-// `a,b` has 2 pieces between commas. The entry past the answers stays as it is.
-#[test]
-fn a_list_of_calls(rt: HostRuntime) {
-    let unwritten = Answer::Next(None);
+// no call below answers so
+const UNWRITTEN: Answer = Answer::Rest(Piece { start: 9, end: 9 });
+
+// Calls on `a,b` cut at commas, of which a text has 2 pieces; the answers go into a list of `ROOM` entries.
+fn played<const ROOM: usize>() -> (Code, [Answer; ROOM]) {
     let calls = [
         Call::Skip(3),
         Call::Skip(2),
         Call::Next,
         Call::Pour(Bytes::new(b"+")),
     ];
-    let mut answers = [unwritten; 5];
-    let mut label = Label::new();
+    let mut answers = [UNWRITTEN; ROOM];
     let played = play(
         Bytes::new(b"a,b"),
         Substring::new(Bytes::new(b",")),
         UNBOUNDED,
         &calls,
-        &mut label,
+        &mut Label::new(),
         &mut answers,
     );
-    assert_eq!(rt; played, Ok(()));
-    assert_eq!(rt; answers[0], Answer::Skip(Err(Refusal::TooFew { left: 2 })));
-    assert_eq!(rt; answers[1], Answer::Skip(Ok(())));
-    assert_eq!(rt; answers[2], Answer::Next(None));
-    assert_eq!(rt; answers[3], Answer::Pour(Err(Refusal::Spent)));
-    assert_eq!(rt; answers[4], unwritten);
-    assert_eq!(rt; label.as_bytes(), b"".as_slice());
+    (code(played), answers)
+}
+
+// The entry past the answers stays as it is.
+#[test]
+fn a_list_of_calls(rt: HostRuntime) {
+    assert_eq!(rt;
+        played(),
+        (
+            Ok(()),
+            [
+                Answer::Skip(Err(Refusal::TooFew { left: 2 })),
+                Answer::Skip(Ok(())),
+                Answer::Next(None),
+                Answer::Pour(Err(Refusal::Spent)),
+                UNWRITTEN,
+            ]
+        )
+    );
+}
+
+#[test]
+fn too_few_entries(rt: HostRuntime) {
+    assert_eq!(rt; played(), (Err((7, 4)), [UNWRITTEN; 3]));
 }
