@@ -260,6 +260,13 @@ def rmark(*args):
     mark(*args, back=True)
 
 
+def everywhere(kind, t, searcher):
+    """The marks from and before every offset, and some past the end."""
+    for p in (*range(len(t) + 4), TOP):
+        mark(kind, t, searcher, p)
+        rmark(kind, t, searcher, p)
+
+
 def pieces_of(t, searcher, bound):
     """Pieces with the ends of their marks, by CPython's split or re.split."""
     if searcher.startswith('sub:'):
@@ -313,8 +320,60 @@ def cutter(kind, t, searcher, bound, *calls):
 
 MOST = 2 ** 63 - 1
 LEAST = -2 ** 63
+TOP = 2 ** 64 - 1
+ALL = bytes(range(256))
 EURO = '€'.encode()
 MIXED = 'aé€𝄞'.encode()
+EUROS = 'a€é€'.encode()
+
+# the edges of the table of well-formed sequences, and sequences that are cut off
+EDGES = [b'', b'\x7f', b'\x80', b'\xc1\xbf', b'\xc0\x80', b'\xc2\x7f', b'\xc2\x80', b'\xdf\xbf', b'\xe0\x9f\xbf', b'\xe0\xa0\x80', b'\xed\x9f\xbf',
+         b'\xed\xa0\x80', b'\xee\x80\x80', b'\xef\xbf\xbf', b'\xf0\x8f\xbf\xbf', b'\xf0\x90\x80\x80', b'\xf4\x8f\xbf\xbf', b'\xf4\x90\x80\x80',
+         b'\xf5\x80\x80\x80', b'\xff', b'a\x80', b'\xc3(', b'a\xc3(', b'\xe2\x82(', b'a\xf4\x90\x80\x80', b'\xc2', b'\xe0\xa0', b'\xf0', b'a\xe2\x82',
+         b'a\xf0\x9f\x9a', b'\xe2\x82\xac\xc3', b'\xf0\x9d\x84\x9ea\xed', b'\xc3\xa9\xe2\x82\xac', b'ab\xe2\x82', b'a\xed\xa0\x80']
+
+# a text and what is sought in it
+NEEDLES = [(b'aaaa', b'aa'), (b'aa', b'aa'), (b'aa', b'aaa'), (b'', b'a'), (b'abab', b'ba'), (b'aab', b'ab'), (b'aab', b'aa'), (EUROS, EURO),
+           (EUROS, 'é€'.encode()), (EUROS, 'è'.encode()), (EUROS, '𝄞'.encode()), (EURO, b'\x82'), (b'aaaa', b''), (b'', b'')]
+
+# every pair of a return, a feed and a letter, and longer texts
+LINES = [b'', b'a', b'\r', b'\n', b'\r\r', b'\r\n', b'\ra', b'\n\r', b'\n\n', b'\na', b'a\r', b'a\n', b'aa', b'a\r\nb', b'a\r\n\r\nb\n\rc', b'\r\r\n\n',
+         b'\n\r\n\r', b'a\nb\r\nc\rd', b'\r\n\r\n', b'\x0b\x0c\x1c\r', b'\r\n\n', 'é\r\n€\n\r𝄞'.encode()]
+
+# a text, a separator, a bound, and calls
+CUTTERS = [(b'a,b', b',', -1, 'skip:3 skip:2 next pour:x2b:9 rest'),
+           (b'a,b', b',', -1, f'skip:{TOP} rest next rest next next'),
+           (b'a,b', b',', -1, f'skip:{TOP} rest next skip:2 next'),
+           (b'a,b', b',', -1, 'skip:0 skip:1 rest skip:1 skip:0 skip:1'),
+           (b'a,b', b',', -1, 'rest next rest next rest next rest'),
+           (b'a,b', b',', -1, 'pour:x2d2b2d:4 pour:x2d2b2d:5 pour:x2d2b2d:8'),
+           (b'a,b', b',', -1, 'pour:x2d2b2d:0 pour:x2d2b2d:6 next rest'),
+           (b'a,b,c', b',', 0, 'skip:2 next next'),
+           (b'a,b,c', b',', 0, 'next next'),
+           (b'a,b,c', b',', 0, 'pour:x2d2d:4 pour:x2d2d:5'),
+           (b'a,b,c', b',', 1, 'next rest pour:x3b20:3 pour:x3b20:2 rest'),
+           (b'a,b,c', b',', 1, 'skip:3 skip:1 next next'),
+           (b'a,b,c', b',', 1, 'next next next'),
+           (b'a,b,c', b',', 1, 'pour:x2d2d:5 pour:x2d2d:8'),
+           (b'a,b,c', b',', 2, 'next next next next'),
+           (b'a,b,c', b',', -1, 'pour:x3b20:6 rest pour:x3b20:7 pour:x3b20:7'),
+           (b'a,b,c', b',', LEAST, 'next next next next'),
+           (b'a,b,c', b',', MOST, 'pour:x:2 pour:x:3'),
+           (b'a,b,c,d', b',', 2, 'next pour:x2d2d:5 pour:x2d2d:6'),
+           (b'aaa', b'aa', -1, 'next rest next next'),
+           (b'aaa', b'aa', -1, 'next next next'),
+           (b'aaa', b'aa', -1, 'pour:x62:1 rest pour:x62:2'),
+           (b'a,', b',', -1, 'next skip:1 skip:0 skip:1'),
+           (b'a,', b',', -1, 'next rest next next'),
+           (b',', b',', -1, 'next next next'),
+           (b'', b',', -1, 'rest next next pour:x:0'),
+           (b'', b',', -1, 'next next'),
+           (b'', b',', -1, f'skip:2 next skip:{TOP}'),
+           (b'', b',', -1, 'pour:x2b:0 pour:x2b:0'),
+           (MIXED, EURO, -1, 'next rest pour:x2d:4'),
+           (EUROS, EURO, -1, 'next next next next'),
+           (EUROS, EURO, -1, 'pour:x65:4 pour:x65:5'),
+           (b'a,b', b'', -1, 'next')]
 
 
 def write():
@@ -389,43 +448,50 @@ def write():
         replace(kind, MIXED, b'', EURO, 3, 30)
         replace(kind, MIXED, EURO, b'e', None, 20)
         # texts
-        for p in range(len(MIXED) + 2):
+        for p in (*range(len(MIXED) + 2), TOP):
             element(kind, MIXED, p)
-        for a, b in ((0, 10), (1, 3), (1, 2), (3, 3), (3, 1), (10, 10), (10, 11)):
+        for a, b in ((0, 0), (0, 1), (1, 3), (3, 6), (0, 10), (6, 6), (10, 10), (1, 2), (2, 3), (4, 4), (7, 9), (3, 1), (10, 0),
+                     (10, 11), (0, 11), (11, 11), (0, TOP), (TOP, TOP), (3, 3)):
             getbytes(kind, MIXED, a, b)
+        element(kind, b'', 0)
+        for t in EDGES:
+            getbytes(kind, t, 0, len(t))
         # marks
-        for p in (0, 1, 2, 4, 2 ** 64 - 1):
-            mark(kind, b'aaaa', 'sub:x6161', p)
-            rmark(kind, b'aaaa', 'sub:x6161', p)
-        for t in (b'\r\n', b'\n\r', b'\r\r', b'\n\n', b'\ra', b'a\n', b'\r\n\n', b''):
-            for p in range(3):
-                mark(kind, t, 'lines', p)
-                rmark(kind, t, 'lines', p + 1)
-        mark(kind, b'a;b', 'set:x', 0)
-        mark(kind, b'a;b', 'set:x3b', 0)
-        mark(kind, b'a;b', 'set:' + x(bytes(range(128))), 1)
-        mark(kind, b'a;b', 'set:' + x(bytes(range(256))), 1)
-        rmark(kind, b'a;b', 'set:' + x(bytes(range(256))), 2)
+        for t, needle in NEEDLES:
+            everywhere(kind, t, 'sub:' + x(needle))
+        for t in LINES:
+            everywhere(kind, t, 'lines')
+            splitlines(kind, t, False, 9)
+            splitlines(kind, t, True, 9)
+        for members in (b'', b' ,', b',\x82', b'\x00a\x7f', b'\x80', b'\xff', b'a\xc8\x82', b'\xff\x80a\x80', b'a\xc3\xa9', ALL):
+            everywhere(kind, 'é, €'.encode(), 'set:' + x(members))
+        for members in (b'', b';', ALL[:128], ALL):
+            everywhere(kind, b'a;b', 'set:' + x(members))
         # cutters
-        cutter(kind, b'a,b', 'sub:x2c', -1, 'skip:3', 'skip:2', 'next', 'pour:x2b:9', 'rest')
-        cutter(kind, b'a,b', 'sub:x2c', -1, 'skip:18446744073709551615', 'rest', 'next', 'rest', 'next', 'next')
-        cutter(kind, b'a,b,c', 'sub:x2c', 1, 'next', 'rest', 'pour:x3b20:3', 'pour:x3b20:2', 'rest')
-        cutter(kind, b'a,b,c', 'sub:x2c', 0, 'skip:2', 'next', 'next')
-        cutter(kind, b'a,b,c', 'sub:x2c', -1, 'pour:x3b20:6', 'rest', 'pour:x3b20:7', 'pour:x3b20:7')
-        cutter(kind, b'aaa', 'sub:x6161', -1, 'next', 'rest', 'next', 'next')
-        cutter(kind, b'a,', 'sub:x2c', -1, 'next', 'skip:1', 'skip:0', 'skip:1')
-        cutter(kind, b'', 'sub:x2c', -1, 'rest', 'next', 'next', 'pour:x:0')
+        for t, sep, bound, calls in CUTTERS:
+            cutter(kind, t, 'sub:' + x(sep), bound, *calls.split())
         cutter(kind, b'a;b c', 'set:x3b20', -1, 'next', 'next', 'next', 'next')
         cutter(kind, b'a;b c', 'set:xff', -1, 'next', 'next')
+        cutter(kind, b'a\r\nb', 'set:x0d0a', -1, 'next', 'next', 'next', 'next')
+        cutter(kind, b'a\r\nb', 'set:x0d0a', -1, 'pour:x7c:3', 'pour:x7c:8')
+        cutter(kind, EURO, 'set:x82', -1, 'next', 'pour:x7c:8')
         cutter(kind, b'a\r\nb\rc\n', 'lines', -1, 'skip:2', 'rest', 'pour:x7c:2', 'next')
         cutter(kind, b'a\r\nb\rc\n', 'lines', 1, 'next', 'pour:x7c:9')
-        cutter(kind, MIXED, 'sub:' + x(EURO), -1, 'next', 'rest', 'pour:x2d:4')
-        cutter(kind, b'a,b', 'sub:x', -1, 'next')
+        cutter(kind, b'a\r\n\nb', 'lines', -1, 'next', 'next', 'next', 'next')
+        cutter(kind, b'a\r\n\nb', 'lines', 1, 'skip:3', 'next', 'next')
+        cutter(kind, b'a\r\nb\rc', 'lines', -1, 'pour:x7c:4', 'pour:x7c:5')
         # ill-formed as Text, plain as Bytes
-        for t in (b'\xc3\x28', b'a\xed\xa0\x80', b'\xf4\x90\x80\x80', b'\xc0\x80', b'ab\xe2\x82', b'\xf4\x8f\xbf\xbf', b'\xed\x9f\xbf', b'\xe0\xa0\x80', b'\xc2\x80'):
-            getbytes(kind, t, 0, len(t))
         split(kind, b'\xc3\x28', b'(', -1, 9)
         split(kind, b'a(', b'\xc3', -1, 9)
+    # sets of any byte
+    for members in (b'', b'b', b'\xffaa'):
+        everywhere('bytes', b'ab\xffb', 'set:' + x(members))
+    for p in (0, 1, 127, 128, 255, 256):
+        mark('bytes', ALL, 'set:' + x(ALL), p)
+        rmark('bytes', ALL, 'set:' + x(ALL), p)
+    rmark('bytes', ALL, 'set:' + x(ALL), TOP)
+    for b in ALL:
+        mark('bytes', bytes([b ^ 1, b, b]), 'set:' + x(bytes([b])), 0)
     # find, rfind, count
     sought(b'spam, spam, spam', b'spam')
     sought(b'spam, spam, spam', b'spam', 1)

@@ -1,21 +1,26 @@
-// Executed samples: texts, indices, searchers, cutters and trays, against answers worked out elsewhere.
+// Samples of the definitions, proved as one list, and executed tests of what a line of `replay` cannot say.
 #![tactic(auto)]
 
+ghost use Rattle.std.specs.Prelude.{◌≡◌, length};
+ghost use Rattle.samples.specs.Samples.{samples, SamplesHold};
+
+// The number of samples, each of which is as expected.
+pub fn sample_count() -> usize
+    ensures value { result ≡ length samples }
+    ensures hold { SamplesHold }
+{
+    22
+}
+
 #[cfg(test)]
-mod answers;
-#[cfg(test)]
-mod cut_texts;
-#[cfg(test)]
-mod elements;
-#[cfg(test)]
-mod forms;
+mod codes;
 #[cfg(test)]
 mod indices;
 #[cfg(test)]
-mod line_ends;
-#[cfg(test)]
-mod needles;
+mod limits;
 #[cfg(test)]
 mod plays;
 #[cfg(test)]
-mod sets;
+mod refused;
+#[cfg(test)]
+mod rooms;

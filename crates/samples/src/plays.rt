@@ -1,5 +1,5 @@
 // A list of calls, made in turn on one cutter.
-use super::answers::{Code, code};
+use super::codes::{Code, code};
 use anystr::bytes::Bytes;
 use anystr::refusal::Refusal;
 use cutters::bound::UNBOUNDED;

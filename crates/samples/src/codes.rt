@@ -1,4 +1,4 @@
-// The answers of calls, by the numbers of the refusals. As in `samples`: a crate of tests gives nothing to another.
+// The answers of calls, by the numbers of the refusals.
 use anystr::refusal::Refusal;
 
 // what a call answers: nothing, or the code of a refusal

@@ -1,5 +1,5 @@
 use Rattle.std.proofs.Common.{refl}
-use Rattle.method_samples.proofs.sample_count.Goals as goal
+use Rattle.samples.proofs.sample_count.Goals as goal
 
 pub returns : goal.returns
 returns c = record { value = refl; hold = refl }

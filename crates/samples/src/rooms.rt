@@ -4,6 +4,9 @@ use anystr::anystr::AnyStr;
 use anystr::bytes::Bytes;
 use anystr::optional::OptionalArg;
 use bytesinner::replace;
+use cutters::bound::UNBOUNDED;
+use cutters::cutter::Cutter;
+use lineends::LineEnds;
 use trays::buffer::Buffer;
 use trays::container::AnyStrContainer;
 use trays::label::{LABEL_BYTES, Label};
@@ -39,4 +42,21 @@ fn eighty_bytes_into_a_label(rt: HostRuntime) {
     assert!(rt; label.push_str(&Bytes::new(b"")).is_ok());
     assert_eq!(rt; code(label.push_str(&Bytes::new(b"b"))), Err((7, 1)));
     assert_eq!(rt; label.as_bytes(), &full[..]);
+}
+
+// A pour of bytes without a line end into a label, which takes them whole or not at all.
+fn labelled(bytes: &[u8]) -> (Code, usize) {
+    let mut label = Label::new();
+    let mut cutter = Cutter::open(Bytes::new(bytes), LineEnds, UNBOUNDED);
+    let answer = cutter.pour(&Bytes::new(b""), &mut label);
+    (code(answer), label.as_bytes().len())
+}
+
+#[test]
+fn a_row_into_a_label(rt: HostRuntime) {
+    let long = [b'a'; LABEL_BYTES + 1];
+    assert_eq!(rt; labelled(&long), (Err((7, 81)), 0));
+    assert_eq!(rt; labelled(&long[..LABEL_BYTES]), (Ok(()), LABEL_BYTES));
+    assert_eq!(rt; labelled(b"a"), (Ok(()), 1));
+    assert_eq!(rt; labelled(b""), (Ok(()), 0));
 }

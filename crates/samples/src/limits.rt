@@ -1,6 +1,6 @@
-// Needles and lists of places at the limits and one beyond; texts have theirs in `samples`.
+// Texts, needles and lists of places at the limits and one beyond.
 use super::codes::{Code, code};
-use anystr::anystr::MAX_BYTES;
+use anystr::anystr::{AnyStr, MAX_BYTES};
 use anystr::bytes::Bytes;
 use anystr::place::Place;
 use bytesinner::{find, join};
@@ -8,6 +8,7 @@ use finds::either::Either;
 use finds::options::ByteInnerFindOptions;
 use joins::MAX_PLACES;
 use std::test::Fail;
+use text::Text;
 use trays::label::Label;
 
 const TOO_LONG: Code = Err((6, 0));
@@ -24,9 +25,26 @@ fn sought<'a>(text: &'a [u8], sub: &'a [u8]) -> Code {
 }
 
 #[test]
-fn a_needle_too_long(rt: HostRuntime) -> Result<(), Fail> {
-    let longer = vec![in rt.alloc(); b'a'; MAX_BYTES + 1]?;
-    assert_eq!(rt; sought(b"a", longer.as_slice()), TOO_LONG);
+fn the_longest_text(rt: HostRuntime) -> Result<(), Fail> {
+    assert_eq!(rt; MAX_BYTES, 16_777_216);
+    let most = vec![in rt.alloc(); b'a'; MAX_BYTES]?;
+    let longest = most.as_slice();
+    assert_eq!(rt; code(Bytes::check(longest)), Ok(()));
+    assert_eq!(rt; code(Text::check(longest)), Ok(()));
+    assert_eq!(rt; Bytes::new(longest).bytes_len(), MAX_BYTES);
+    assert_eq!(rt; Text::new(longest).element_count(), MAX_BYTES);
+    Ok(())
+}
+
+#[test]
+fn a_byte_too_many(rt: HostRuntime) -> Result<(), Fail> {
+    let more = vec![in rt.alloc(); b'a'; MAX_BYTES + 1]?;
+    let longer = more.as_slice();
+    assert_eq!(rt; code(Bytes::check(longer)), TOO_LONG);
+    assert_eq!(rt; code(Text::check(longer)), TOO_LONG);
+    assert!(rt; Bytes::new(longer).is_empty());
+    assert!(rt; Text::new(longer).is_empty());
+    assert_eq!(rt; sought(b"a", longer), TOO_LONG);
     Ok(())
 }
 
