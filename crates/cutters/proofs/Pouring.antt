@@ -1,5 +1,5 @@
 -- A tray while bytes are poured into it.
-use Rattle.std.proofs.Common.{◌≡◌, ℕ, ◌+◌, ◌≤◌, List, ◌++◌, length, drop, ap, ◌∙◌, append_assoc, arith, length-append, length-drop}
+use Rattle.std.proofs.Common.{◌≡◌, ℕ, ◌+◌, ◌≤◌, Bool, true, false, cond, List, [], ◌++◌, length, drop, ap, ◌∙◌, append_assoc, arith, length-append, length-drop}
 use Rattle.std.proofs.lemmas.List.{drop-drop}
 
 -- what is held, with `rest` still to come, will be `all`; of the bytes that were spare at first those past the poured ones are left
@@ -30,9 +30,20 @@ module _ (held spare rest piece gap rest' all spare₀ : List ℕ) (total : ℕ)
   split : Pouring held spare (piece ++ (gap ++ rest')) all spare₀ total
   split = rw parts at so_far
 
+  pub piece-fits : length piece ≤ length spare
+  piece-fits = omega (arith, split.room, length-append piece (gap ++ rest'))
+
   module _ (held' spare' : List ℕ) (eh : held' ≡ held ++ piece) (es : spare' ≡ drop (length piece) spare) where
     between : Pouring held' spare' (gap ++ rest') all spare₀ total
     between = pushed held spare piece (gap ++ rest') all spare₀ held' spare' total split eh es
 
+    pub gap_fits : length gap ≤ length spare'
+    gap_fits = omega (arith, between.room, length-append gap rest')
+
     pub gap_poured : (held'' spare'' : List ℕ) → held'' ≡ held' ++ gap → spare'' ≡ drop (length gap) spare' → Pouring held'' spare'' rest' all spare₀ total
     gap_poured held'' spare'' fh fs = pushed held' spare' gap rest' all spare₀ held'' spare'' total between fh fs
+
+-- no more bytes come after a piece than stand in place of a mark
+pub gap_short : (last : Bool) (to : List ℕ) → length (cond last [] to) ≤ length to
+gap_short true to = omega arith
+gap_short false to = omega arith
