@@ -2,7 +2,10 @@
 use std::io::{BufRead, Write};
 
 fn bytes(word: &str) -> Vec<u8> {
-    (1..word.len()).step_by(2).map(|i| u8::from_str_radix(&word[i..i + 2], 16).unwrap()).collect()
+    (1..word.len())
+        .step_by(2)
+        .map(|i| u8::from_str_radix(&word[i..i + 2], 16).unwrap())
+        .collect()
 }
 
 fn some<T>(word: &str, read: impl Fn(&str) -> T) -> Option<T> {
@@ -26,13 +29,21 @@ fn optional<T>(value: Option<T>) -> OptionalArg<T> {
 }
 
 fn refused(error: PyError, value_error: &str) -> String {
-    let code = if error == PyError::Overflow { "5" } else { value_error };
+    let code = if error == PyError::Overflow {
+        "5"
+    } else {
+        value_error
+    };
     format!("refused {code} 0")
 }
 
 // The crate's results have all the room that there is; a case may lend less.
 fn roomed(size: usize, room: &str, answer: String) -> String {
-    if size > room.parse().unwrap() { format!("refused 7 {size}") } else { answer }
+    if size > room.parse().unwrap() {
+        format!("refused 7 {size}")
+    } else {
+        answer
+    }
 }
 
 fn held(result: PyResult<Vec<u8>>, room: &str, value_error: &str) -> String {
@@ -48,7 +59,10 @@ fn held(result: PyResult<Vec<u8>>, room: &str, value_error: &str) -> String {
 fn listed(result: PyResult<Vec<(usize, usize)>>, room: &str) -> String {
     match result {
         Ok(places) => {
-            let each: String = places.iter().map(|(start, end)| format!(" {start}-{end}")).collect();
+            let each: String = places
+                .iter()
+                .map(|(start, end)| format!(" {start}-{end}"))
+                .collect();
             roomed(places.len(), room, format!("places {}{each}", places.len()))
         }
         Err(error) => refused(error, "1"),
@@ -108,8 +122,13 @@ fn split(words: &[&str]) -> String {
 
 fn splitlines(words: &[&str]) -> String {
     let text = PyBytesInner::from(bytes(words[2]));
-    let options = SplitLinesArgs { keepends: words[3] == "1" };
-    listed(Ok(text.splitlines(options, |part: &[u8]| place(&text, part))), words[4])
+    let options = SplitLinesArgs {
+        keepends: words[3] == "1",
+    };
+    listed(
+        Ok(text.splitlines(options, |part: &[u8]| place(&text, part))),
+        words[4],
+    )
 }
 
 fn sought(words: &[&str]) -> String {
@@ -143,7 +162,11 @@ fn parts(text: &[u8], places: &str) -> Option<Vec<PyBytesInner>> {
     places
         .map(|place| {
             let (start, end) = place.split_once('-')?;
-            Some(text.get(start.parse().ok()?..end.parse().ok()?)?.to_vec().into())
+            Some(
+                text.get(start.parse().ok()?..end.parse().ok()?)?
+                    .to_vec()
+                    .into(),
+            )
         })
         .collect()
 }
@@ -166,14 +189,23 @@ fn translate(words: &[&str]) -> String {
 }
 
 fn maketrans(words: &[&str]) -> String {
-    let table = PyBytesInner::maketrans(bytes(words[1]).into(), bytes(words[2]).into(), &VirtualMachine);
+    let table = PyBytesInner::maketrans(
+        bytes(words[1]).into(),
+        bytes(words[2]).into(),
+        &VirtualMachine,
+    );
     held(table, words[3], "3")
 }
 
 fn replace(words: &[&str]) -> String {
     let text = PyBytesInner::from(bytes(words[2]));
     let maxcount = optional(some(words[5], |word| number(word) as isize));
-    let result = text.replace(bytes(words[3]).into(), bytes(words[4]).into(), maxcount, &VirtualMachine);
+    let result = text.replace(
+        bytes(words[3]).into(),
+        bytes(words[4]).into(),
+        maxcount,
+        &VirtualMachine,
+    );
     held(result, words[6], "")
 }
 

@@ -3,7 +3,7 @@
 use bstr::ByteSlice;
 
 mod anystr {
-    pub use super::{SplitArgs, SplitLinesArgs, adjust_indices};
+    pub use super::{adjust_indices, SplitArgs, SplitLinesArgs};
 }
 
 #[derive(Debug, PartialEq)]
