@@ -18,8 +18,8 @@ returns-then-needed-free-clause-value g c =
     rw c.in_ok-table.ensures.long (omega arith, cc, refl, refl)
 
 -- a byte that stays has room
-pub returns-in_err-push_str-clause-value : goal.returns-in_err-push_str-clause-value
-returns-in_err-push_str-clause-value g c =
+pub returns-in_err-push_str : goal.returns-in_err-push_str
+returns-in_err-push_str g c =
     let gone = member c.loop-d.gone.has in
     let bytes = c.as_bytes-bytes.result.now in
     let f = image (table_in c.args.options) in
