@@ -23,7 +23,6 @@ use sheet::show_sheet;
 use std::env::{Env, FillError};
 use std::io::{BufWriter, Read, Write};
 use std::process::ExitCode;
-use std::rt::Stdout;
 use std::{env, io};
 use stop::Stop;
 use task::{Method, Task, read_task};
@@ -49,7 +48,7 @@ fn read_sheet(rt: &HostRuntime) -> io::Result<Vec<u8>> {
 
 // Shows the sheet by its characters where it is well-formed text, and else by its bytes. A match, here and where else
 // bytes may be text: no closure takes both kinds.
-fn show<W: Write>(page: &mut Page<W>, sheet: Bytes<'_>) -> Result<(), Stop> {
+fn show(page: &mut Page, sheet: Bytes<'_>) -> Result<(), Stop> {
     match Text::try_from(sheet.as_bytes()) {
         Ok(text) => show_sheet(page, text, Ok(())),
         Err(refusal) => show_sheet(page, sheet, Err(refusal)),
@@ -57,8 +56,8 @@ fn show<W: Write>(page: &mut Page<W>, sheet: Bytes<'_>) -> Result<(), Stop> {
 }
 
 // Shows a method's words, and what it gives on the sheet, which it takes in the same way.
-fn show_method<W: Write>(
-    page: &mut Page<W>,
+fn show_method(
+    page: &mut Page,
     words: &[String],
     sheet: Bytes<'_>,
     method: Method<'_>,
@@ -67,20 +66,24 @@ fn show_method<W: Write>(
         page.word(word.as_bytes())?;
     }
     match Text::try_from(sheet.as_bytes()) {
-        Ok(text) => show_answer(page, text, " bytes of text", method),
-        Err(_) => show_answer(page, sheet, " bytes", method),
+        Ok(text) => show_answer(page, &text, " bytes of text", method),
+        Err(_) => show_answer(page, &sheet, " bytes", method),
     }
 }
 
-// Writes a page, at whose end stands what was refused.
-fn write_page<F: FnOnce(&mut Page<BufWriter<Stdout>>) -> Result<(), Stop>>(
+// Writes a page of the sheet or of what a method gives on it, at whose end stands what was refused.
+fn write_page(
     rt: &HostRuntime,
-    view: F,
-) -> io::Result<()>
-    requires { F.IsAlwaysCallable view }
-{
+    words: &[String],
+    sheet: Bytes<'_>,
+    method: Option<Method<'_>>,
+) -> io::Result<()> {
     let mut page = Page::new(BufWriter::new(rt.alloc(), rt.stdout())?, rt.alloc());
-    match view(&mut page) {
+    let shown = match method {
+        None => show(&mut page, sheet),
+        Some(method) => show_method(&mut page, words, sheet, method),
+    };
+    match shown {
         Ok(()) => {}
         Err(Stop::Refused(refusal)) => page.refused(refusal)?,
         Err(Stop::Failed(e)) => return Err(e),
@@ -88,16 +91,15 @@ fn write_page<F: FnOnce(&mut Page<BufWriter<Stdout>>) -> Result<(), Stop>>(
     page.finish()
 }
 
-// Reads the sheet, and writes what `view` shows of it.
-fn show_input<F: FnOnce(&mut Page<BufWriter<Stdout>>, Bytes<'_>) -> Result<(), Stop>>(
+// Reads the sheet, and writes what is to be shown of it.
+fn show_input(
     rt: &HostRuntime,
-    view: F,
-) -> Result<(), Trouble>
-    requires { F.IsAlwaysCallable view }
-{
+    words: &[String],
+    method: Option<Method<'_>>,
+) -> Result<(), Trouble> {
     let bytes = read_sheet(rt).map_err(Trouble::Input)?;
     let sheet = Bytes::try_from(bytes.as_slice()).map_err(Trouble::TooLong)?;
-    write_page(rt, |page| view(page, sheet)).map_err(Trouble::Output)
+    write_page(rt, words, sheet, method).map_err(Trouble::Output)
 }
 
 fn run(rt: &HostRuntime) -> Result<(), Trouble> {
@@ -108,10 +110,8 @@ fn run(rt: &HostRuntime) -> Result<(), Trouble> {
             .stdout()
             .write_all(HELP.as_bytes())
             .map_err(Trouble::Output),
-        Task::Sheet => show_input(rt, show),
-        Task::Method(method) => {
-            show_input(rt, |page, sheet| show_method(page, words, sheet, method))
-        }
+        Task::Sheet => show_input(rt, words, None),
+        Task::Method(method) => show_input(rt, words, Some(method)),
     }
 }
 

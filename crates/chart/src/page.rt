@@ -9,8 +9,9 @@ use cutters::play::Answer;
 use sheets::escapes::add_text;
 use std::alloc::Global;
 use std::io;
-use std::io::Write;
+use std::io::{BufWriter, Write};
 use std::num::Saturating;
+use std::rt::Stdout;
 use text::Text;
 use trays::label::Label;
 
@@ -29,15 +30,15 @@ pub struct Tally {
 
 // Where a sheet is shown.
 #[derive(Drop)]
-pub struct Page<W: Write> {
-    out: W,
+pub struct Page {
+    out: BufWriter<Stdout>,
     // the content of the field that is shown
     content: Vec<u8>,
     pub heap: Global,
 }
 
-impl<W: Write> Page<W> {
-    pub fn new(out: W, heap: Global) -> Page<W> {
+impl Page {
+    pub fn new(out: BufWriter<Stdout>, heap: Global) -> Page {
         Page {
             out,
             content: Vec::new(heap),
@@ -47,13 +48,9 @@ impl<W: Write> Page<W> {
 
     // The sheet's size, and what the check for well-formed text said.
     pub fn head<S: AnyStr>(&mut self, sheet: &S, checked: Result<(), Refusal>) -> io::Result<()> {
-        let bytes = sheet.bytes_len();
-        writeln!(self.out, "sheet  {bytes} bytes")?;
+        self.line("sheet  ", sheet.bytes_len(), " bytes")?;
         match checked {
-            Ok(()) => {
-                let characters = sheet.element_count();
-                writeln!(self.out, "text   well formed, {characters} characters")
-            }
+            Ok(()) => self.line("text   well formed, ", sheet.element_count(), " characters"),
             Err(refusal) => {
                 let (number, offset) = refusal.code();
                 writeln!(

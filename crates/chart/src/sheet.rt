@@ -7,11 +7,11 @@ use anystr::refusal::Refusal;
 use bytesets::asciiset::AsciiSet;
 use cutters::bound::UNBOUNDED;
 use cutters::cutter::Cutter;
+use cutters::piece::Piece;
 use lineends::LineEnds;
 use searchers::ascii::AsciiStr;
 use sheets::counts::count_in;
 use std::io;
-use std::io::Write;
 use substring::Substring;
 
 const COMMA: &[u8] = b",";
@@ -20,11 +20,7 @@ const COMMA: &[u8] = b",";
 const GAP: &[u8] = b"; ";
 
 // Shows the fields of a row, and counts them.
-fn show_fields<W: Write, S: AsciiStr>(
-    page: &mut Page<W>,
-    row: &Row<S>,
-    tally: &mut Tally,
-) -> io::Result<()> {
+fn show_fields<S: AsciiStr>(page: &mut Page, row: &Row<S>, tally: &mut Tally) -> io::Result<()> {
     for (number, field) in (1..).zip(row.fields().pieces()) {
         let content = row.text.get_bytes(field.start..field.end);
         page.field(number, row.place(field), &content)?;
@@ -36,9 +32,25 @@ fn show_fields<W: Write, S: AsciiStr>(
     Ok(())
 }
 
+// Shows a row, its fields, and what calls on a cutter of them give.
+fn show_row<S: AsciiStr>(
+    page: &mut Page,
+    number: usize,
+    piece: Piece,
+    row: &Row<S>,
+    tally: &mut Tally,
+) -> Result<(), Stop> {
+    page.row(number, piece)?;
+    show_fields(page, row, tally)?;
+    show_calls(page, row)?;
+    show_label(page, row)?;
+    tally.rows += 1;
+    Ok(())
+}
+
 // Shows the rows, of which `comma` separates the fields; an empty one behind the last line end is none.
-fn show_rows<W: Write, S: AsciiStr>(
-    page: &mut Page<W>,
+fn show_rows<S: AsciiStr>(
+    page: &mut Page,
     sheet: S,
     comma: Substring<S>,
     gap: S,
@@ -53,18 +65,14 @@ fn show_rows<W: Write, S: AsciiStr>(
             comma,
             gap,
         };
-        page.row(number, piece)?;
-        show_fields(page, &row, &mut tally)?;
-        show_calls(page, &row)?;
-        show_label(page, &row)?;
-        tally.rows += 1;
+        show_row(page, number, piece, &row, &mut tally)?;
     }
     Ok(tally)
 }
 
 // Shows a sheet, with what its check for well-formed text said.
-pub fn show_sheet<'a, W: Write, S: AsciiStr + TryFrom<&'a [u8], Error = Refusal>>(
-    page: &mut Page<W>,
+pub fn show_sheet<'a, S: AsciiStr + TryFrom<&'a [u8], Error = Refusal>>(
+    page: &mut Page,
     sheet: S,
     checked: Result<(), Refusal>,
 ) -> Result<(), Stop> {
