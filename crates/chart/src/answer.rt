@@ -20,19 +20,14 @@ fn everywhere<'a>(sub: &'a [u8]) -> ByteInnerFindOptions<'a> {
     }
 }
 
-fn show_find(page: &mut Page, sheet: Bytes<'_>, sub: &[u8]) -> Result<(), Stop> {
-    let offset = find(&sheet, everywhere(sub))?;
-    Ok(page.found(offset)?)
+// Shows what a search gave.
+fn show_found(page: &mut Page, offset: Result<Option<usize>, Refusal>) -> Result<(), Stop> {
+    Ok(page.found(offset?)?)
 }
 
-fn show_rfind(page: &mut Page, sheet: Bytes<'_>, sub: &[u8]) -> Result<(), Stop> {
-    let offset = rfind(&sheet, everywhere(sub))?;
-    Ok(page.found(offset)?)
-}
-
-fn show_count(page: &mut Page, sheet: Bytes<'_>, sub: &[u8]) -> Result<(), Stop> {
-    let times = count(&sheet, everywhere(sub))?;
-    Ok(page.line("times ", times, "")?)
+// Shows what a count gave.
+fn show_count(page: &mut Page, times: Result<usize, Refusal>) -> Result<(), Stop> {
+    Ok(page.line("times ", times?, "")?)
 }
 
 // Shows what a method answers on a sheet of this kind.
@@ -48,9 +43,9 @@ pub fn show_answer<'a, S: AsciiStr + TryFrom<&'a [u8], Error = Refusal>>(
         Method::Split(args) => show_split(page, sheet, args),
         Method::Rsplit(args) => show_rsplit(page, sheet, args),
         Method::Lines(args) => show_listed(page, sheet, "lines ", &Listing::Lines(args)),
-        Method::Find(sub) => show_find(page, bytes, sub),
-        Method::Rfind(sub) => show_rfind(page, bytes, sub),
-        Method::Count(sub) => show_count(page, bytes, sub),
+        Method::Find(sub) => show_found(page, find(&bytes, everywhere(sub))),
+        Method::Rfind(sub) => show_found(page, rfind(&bytes, everywhere(sub))),
+        Method::Count(sub) => show_count(page, count(&bytes, everywhere(sub))),
         Method::Replace { from, to, maxcount } => show_replace(page, sheet, from, to, maxcount),
         Method::Translate { from, to, delete } => show_translate(page, sheet, from, to, delete),
         Method::Join(sep) => show_join(page, sheet, sep),

@@ -32,20 +32,18 @@ fn show_fields<S: AsciiStr>(page: &mut Page, row: &Row<S>, tally: &mut Tally) ->
     Ok(())
 }
 
-// Shows a row, its fields, and what calls on a cutter of them give.
+// Counts a row, and shows it with its fields and what calls on a cutter of them give.
 fn show_row<S: AsciiStr>(
     page: &mut Page,
-    number: usize,
     piece: Piece,
     row: &Row<S>,
     tally: &mut Tally,
 ) -> Result<(), Stop> {
-    page.row(number, piece)?;
+    tally.rows += 1;
+    page.row(tally.rows.0, piece)?;
     show_fields(page, row, tally)?;
     show_calls(page, row)?;
-    show_label(page, row)?;
-    tally.rows += 1;
-    Ok(())
+    show_label(page, row)
 }
 
 // Shows the rows, of which `comma` separates the fields; an empty one behind the last line end is none.
@@ -56,16 +54,17 @@ fn show_rows<S: AsciiStr>(
     gap: S,
 ) -> Result<Tally, Stop> {
     let len = sheet.bytes_len();
-    let rows = Cutter::open(sheet, LineEnds, UNBOUNDED).pieces();
     let mut tally = Tally::default();
-    for (number, piece) in (1..).zip(rows.take_while(|row| row.start < len)) {
-        let row = Row {
-            text: sheet.get_bytes(piece.start..piece.end),
-            start: piece.start,
-            comma,
-            gap,
-        };
-        show_row(page, number, piece, &row, &mut tally)?;
+    for piece in Cutter::open(sheet, LineEnds, UNBOUNDED).pieces() {
+        if piece.start < len {
+            let row = Row {
+                text: sheet.get_bytes(piece.start..piece.end),
+                start: piece.start,
+                comma,
+                gap,
+            };
+            show_row(page, piece, &row, &mut tally)?;
+        }
     }
     Ok(tally)
 }
