@@ -17,8 +17,10 @@ mod trouble;
 use answer::show_answer;
 use anystr::anystr::{AnyStr, MAX_BYTES};
 use anystr::bytes::Bytes;
+use anystr::refusal::Refusal;
 use help::HELP;
 use page::Page;
+use searchers::ascii::AsciiStr;
 use sheet::show_sheet;
 use std::env::{Env, FillError};
 use std::io::{BufWriter, Read, Write};
@@ -46,32 +48,29 @@ fn read_sheet(rt: &HostRuntime) -> io::Result<Vec<u8>> {
     Ok(bytes)
 }
 
-// Shows the sheet by its characters where it is well-formed text, and else by its bytes. A match, here and where else
-// bytes may be text: no closure takes both kinds.
-fn show(page: &mut Page, sheet: Bytes<'_>) -> Result<(), Stop> {
-    match Text::try_from(sheet.as_bytes()) {
-        Ok(text) => show_sheet(page, text, Ok(())),
-        Err(refusal) => show_sheet(page, sheet, Err(refusal)),
-    }
-}
-
-// Shows a method's words, and what it gives on the sheet, which it takes in the same way.
-fn show_method(
+// Shows the sheet, or a method's words and what it gives on the sheet.
+fn show<'a, S: AsciiStr + TryFrom<&'a [u8], Error = Refusal>>(
     page: &mut Page,
     words: &[String],
-    sheet: Bytes<'_>,
-    method: Method<'_>,
+    sheet: S,
+    checked: Result<(), Refusal>,
+    method: Option<Method<'a>>,
 ) -> Result<(), Stop> {
+    let Some(method) = method else {
+        return show_sheet(page, sheet, checked);
+    };
     for word in words.iter().skip(1) {
         page.word(word.as_bytes())?;
     }
-    match Text::try_from(sheet.as_bytes()) {
-        Ok(text) => show_answer(page, &text, " bytes of text", method),
-        Err(_) => show_answer(page, &sheet, " bytes", method),
-    }
+    let kind = match checked {
+        Ok(()) => " bytes of text",
+        Err(_) => " bytes",
+    };
+    show_answer(page, &sheet, kind, method)
 }
 
-// Writes a page of the sheet or of what a method gives on it, at whose end stands what was refused.
+// Writes a page, at whose end stands what was refused. The sheet is shown by its characters where it is well-formed
+// text, and else by its bytes. A match, here and where else bytes may be text: no closure takes both kinds.
 fn write_page(
     rt: &HostRuntime,
     words: &[String],
@@ -79,9 +78,9 @@ fn write_page(
     method: Option<Method<'_>>,
 ) -> io::Result<()> {
     let mut page = Page::new(BufWriter::new(rt.alloc(), rt.stdout())?, rt.alloc());
-    let shown = match method {
-        None => show(&mut page, sheet),
-        Some(method) => show_method(&mut page, words, sheet, method),
+    let shown = match Text::try_from(sheet.as_bytes()) {
+        Ok(text) => show(&mut page, words, text, Ok(()), method),
+        Err(refusal) => show(&mut page, words, sheet, Err(refusal), method),
     };
     match shown {
         Ok(()) => {}

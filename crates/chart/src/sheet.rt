@@ -69,6 +69,13 @@ fn show_rows<S: AsciiStr>(
     Ok(tally)
 }
 
+// Shows how many rows, fields, tabs and blanks there are.
+fn show_counts<S: AsciiStr>(page: &mut Page, sheet: &S, tally: &Tally) -> io::Result<()> {
+    let tabs = count_in(sheet, &AsciiSet::new(b"\t"));
+    let blanks = count_in(sheet, &AsciiSet::new(b" "));
+    page.counts(tally, tabs, blanks)
+}
+
 // Shows a sheet, with what its check for well-formed text said.
 pub fn show_sheet<'a, S: AsciiStr + TryFrom<&'a [u8], Error = Refusal>>(
     page: &mut Page,
@@ -79,7 +86,5 @@ pub fn show_sheet<'a, S: AsciiStr + TryFrom<&'a [u8], Error = Refusal>>(
     let gap = S::try_from(GAP)?;
     page.head(&sheet, checked)?;
     let tally = show_rows(page, sheet, Substring::new(comma), gap)?;
-    let tabs = count_in(&sheet, &AsciiSet::new(b"\t"));
-    let blanks = count_in(&sheet, &AsciiSet::new(b" "));
-    Ok(page.counts(&tally, tabs, blanks)?)
+    Ok(show_counts(page, &sheet, &tally)?)
 }
