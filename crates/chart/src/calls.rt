@@ -6,12 +6,26 @@ use anystr::anystr::AnyStr;
 use cutters::bound::UNBOUNDED;
 use cutters::play::{Answer, Call, play};
 use std::alloc::{AllocError, Global};
-use std::io::Write;
+use std::io;
 use trays::label::Label;
 
+// Shows each answer under its name.
+fn show_answers<S: AnyStr>(
+    page: &mut Page,
+    row: &Row<S>,
+    names: &[&str],
+    answers: &[Answer],
+    label: &Label,
+) -> io::Result<()> {
+    for (name, answer) in names.iter().zip(answers) {
+        page.answer(name, *answer, row, label)?;
+    }
+    Ok(())
+}
+
 // Plays the calls on the row's fields, and shows each answer under its name. What is poured goes into a label.
-fn show_played<W: Write, S: AnyStr>(
-    page: &mut Page<W>,
+fn show_played<S: AnyStr>(
+    page: &mut Page,
     row: &Row<S>,
     names: &[&str],
     calls: &[Call<S>],
@@ -26,10 +40,7 @@ fn show_played<W: Write, S: AnyStr>(
         &mut label,
         answers.as_mut_slice(),
     )?;
-    for (name, answer) in names.iter().zip(answers.as_slice()) {
-        page.answer(name, *answer, row, &label)?;
-    }
-    Ok(())
+    Ok(show_answers(page, row, names, answers.as_slice(), &label)?)
 }
 
 // The first field skipped, the rest, the next field, and the remainder poured. Pushed one by one: an array of a generic
@@ -51,14 +62,14 @@ fn whole_calls<S: AnyStr>(heap: Global, gap: S) -> Result<Vec<Call<S>>, AllocErr
 }
 
 // Shows what is left of the row after its first field.
-pub fn show_calls<W: Write, S: AnyStr>(page: &mut Page<W>, row: &Row<S>) -> Result<(), Stop> {
+pub fn show_calls<S: AnyStr>(page: &mut Page, row: &Row<S>) -> Result<(), Stop> {
     let calls = part_calls(page.heap, row.gap)?;
     let names = ["skip 1", "rest", "next", "pour"];
     show_played(page, row, &names, calls.as_slice())
 }
 
 // Shows the whole row poured into a label.
-pub fn show_label<W: Write, S: AnyStr>(page: &mut Page<W>, row: &Row<S>) -> Result<(), Stop> {
+pub fn show_label<S: AnyStr>(page: &mut Page, row: &Row<S>) -> Result<(), Stop> {
     let calls = whole_calls(page.heap, row.gap)?;
     show_played(page, row, &["label"], calls.as_slice())
 }

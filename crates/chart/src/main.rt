@@ -17,13 +17,14 @@ mod trouble;
 use answer::show_answer;
 use anystr::anystr::{AnyStr, MAX_BYTES};
 use anystr::bytes::Bytes;
+use anystr::refusal::Refusal;
 use help::HELP;
 use page::Page;
+use searchers::ascii::AsciiStr;
 use sheet::show_sheet;
 use std::env::{Env, FillError};
 use std::io::{BufWriter, Read, Write};
 use std::process::ExitCode;
-use std::rt::Stdout;
 use std::{env, io};
 use stop::Stop;
 use task::{Method, Task, read_task};
@@ -47,40 +48,41 @@ fn read_sheet(rt: &HostRuntime) -> io::Result<Vec<u8>> {
     Ok(bytes)
 }
 
-// Shows the sheet by its characters where it is well-formed text, and else by its bytes. A match, here and where else
-// bytes may be text: no closure takes both kinds.
-fn show<W: Write>(page: &mut Page<W>, sheet: Bytes<'_>) -> Result<(), Stop> {
-    match Text::try_from(sheet.as_bytes()) {
-        Ok(text) => show_sheet(page, text, Ok(())),
-        Err(refusal) => show_sheet(page, sheet, Err(refusal)),
-    }
-}
-
-// Shows a method's words, and what it gives on the sheet, which it takes in the same way.
-fn show_method<W: Write>(
-    page: &mut Page<W>,
+// Shows the sheet, or a method's words and what it gives on the sheet.
+fn show<'a, S: AsciiStr + TryFrom<&'a [u8], Error = Refusal>>(
+    page: &mut Page,
     words: &[String],
-    sheet: Bytes<'_>,
-    method: Method<'_>,
+    sheet: S,
+    checked: Result<(), Refusal>,
+    method: Option<Method<'a>>,
 ) -> Result<(), Stop> {
+    let Some(method) = method else {
+        return show_sheet(page, sheet, checked);
+    };
     for word in words.iter().skip(1) {
         page.word(word.as_bytes())?;
     }
-    match Text::try_from(sheet.as_bytes()) {
-        Ok(text) => show_answer(page, text, " bytes of text", method),
-        Err(_) => show_answer(page, sheet, " bytes", method),
-    }
+    let kind = match checked {
+        Ok(()) => " bytes of text",
+        Err(_) => " bytes",
+    };
+    show_answer(page, &sheet, kind, method)
 }
 
-// Writes a page, at whose end stands what was refused.
-fn write_page<F: FnOnce(&mut Page<BufWriter<Stdout>>) -> Result<(), Stop>>(
+// Writes a page, at whose end stands what was refused. The sheet is shown by its characters where it is well-formed
+// text, and else by its bytes. A match, here and where else bytes may be text: no closure takes both kinds.
+fn write_page(
     rt: &HostRuntime,
-    view: F,
-) -> io::Result<()>
-    requires { F.IsAlwaysCallable view }
-{
+    words: &[String],
+    sheet: Bytes<'_>,
+    method: Option<Method<'_>>,
+) -> io::Result<()> {
     let mut page = Page::new(BufWriter::new(rt.alloc(), rt.stdout())?, rt.alloc());
-    match view(&mut page) {
+    let shown = match Text::try_from(sheet.as_bytes()) {
+        Ok(text) => show(&mut page, words, text, Ok(()), method),
+        Err(refusal) => show(&mut page, words, sheet, Err(refusal), method),
+    };
+    match shown {
         Ok(()) => {}
         Err(Stop::Refused(refusal)) => page.refused(refusal)?,
         Err(Stop::Failed(e)) => return Err(e),
@@ -88,16 +90,15 @@ fn write_page<F: FnOnce(&mut Page<BufWriter<Stdout>>) -> Result<(), Stop>>(
     page.finish()
 }
 
-// Reads the sheet, and writes what `view` shows of it.
-fn show_input<F: FnOnce(&mut Page<BufWriter<Stdout>>, Bytes<'_>) -> Result<(), Stop>>(
+// Reads the sheet, and writes what is to be shown of it.
+fn show_input(
     rt: &HostRuntime,
-    view: F,
-) -> Result<(), Trouble>
-    requires { F.IsAlwaysCallable view }
-{
+    words: &[String],
+    method: Option<Method<'_>>,
+) -> Result<(), Trouble> {
     let bytes = read_sheet(rt).map_err(Trouble::Input)?;
     let sheet = Bytes::try_from(bytes.as_slice()).map_err(Trouble::TooLong)?;
-    write_page(rt, |page| view(page, sheet)).map_err(Trouble::Output)
+    write_page(rt, words, sheet, method).map_err(Trouble::Output)
 }
 
 fn run(rt: &HostRuntime) -> Result<(), Trouble> {
@@ -108,10 +109,8 @@ fn run(rt: &HostRuntime) -> Result<(), Trouble> {
             .stdout()
             .write_all(HELP.as_bytes())
             .map_err(Trouble::Output),
-        Task::Sheet => show_input(rt, show),
-        Task::Method(method) => {
-            show_input(rt, |page, sheet| show_method(page, words, sheet, method))
-        }
+        Task::Sheet => show_input(rt, words, None),
+        Task::Method(method) => show_input(rt, words, Some(method)),
     }
 }
 

@@ -9,8 +9,9 @@ use cutters::play::Answer;
 use sheets::escapes::add_text;
 use std::alloc::Global;
 use std::io;
-use std::io::Write;
+use std::io::{BufWriter, Write};
 use std::num::Saturating;
+use std::rt::Stdout;
 use text::Text;
 use trays::label::Label;
 
@@ -29,15 +30,15 @@ pub struct Tally {
 
 // Where a sheet is shown.
 #[derive(Drop)]
-pub struct Page<W: Write> {
-    out: W,
+pub struct Page {
+    out: BufWriter<Stdout>,
     // the content of the field that is shown
     content: Vec<u8>,
     pub heap: Global,
 }
 
-impl<W: Write> Page<W> {
-    pub fn new(out: W, heap: Global) -> Page<W> {
+impl Page {
+    pub fn new(out: BufWriter<Stdout>, heap: Global) -> Page {
         Page {
             out,
             content: Vec::new(heap),
@@ -47,13 +48,9 @@ impl<W: Write> Page<W> {
 
     // The sheet's size, and what the check for well-formed text said.
     pub fn head<S: AnyStr>(&mut self, sheet: &S, checked: Result<(), Refusal>) -> io::Result<()> {
-        let bytes = sheet.bytes_len();
-        writeln!(self.out, "sheet  {bytes} bytes")?;
+        self.line("sheet  ", sheet.bytes_len(), " bytes")?;
         match checked {
-            Ok(()) => {
-                let characters = sheet.element_count();
-                writeln!(self.out, "text   well formed, {characters} characters")
-            }
+            Ok(()) => self.line("text   well formed, ", sheet.element_count(), " characters"),
             Err(refusal) => {
                 let (number, offset) = refusal.code();
                 writeln!(
@@ -72,26 +69,24 @@ impl<W: Write> Page<W> {
     pub fn field<S: AnyStr>(&mut self, number: usize, place: Place, content: &S) -> io::Result<()> {
         let Place { start, end } = place;
         write!(self.out, "    {number:>4}  {start:>8}..{end:<8}  ")?;
-        self.quoted(content)?;
-        self.out.write_all(b"\n")
+        self.quoted(content, b"\"\n")
     }
 
-    // A text in quotes.
-    fn quoted<S: AnyStr>(&mut self, text: &S) -> io::Result<()> {
+    // A text in quotes; `end` is the closing quote and what follows it.
+    fn quoted<S: AnyStr>(&mut self, text: &S, end: &[u8]) -> io::Result<()> {
         self.content.clear();
         add_text(&mut self.content, text)?;
         self.out.write_all(b"\"")?;
         self.out.write_all(self.content.as_slice())?;
-        self.out.write_all(b"\"")
+        self.out.write_all(end)
     }
 
     // Bytes as text where they are text, and else byte by byte.
     fn poured(&mut self, bytes: &[u8]) -> io::Result<()> {
         match Text::try_from(bytes) {
-            Ok(text) => self.quoted(&text)?,
-            Err(_) => self.quoted(&Bytes::new(bytes))?,
+            Ok(text) => self.quoted(&text, b"\"\n"),
+            Err(_) => self.quoted(&Bytes::new(bytes), b"\"\n"),
         }
-        self.out.write_all(b"\n")
     }
 
     // In the form of this page, and by no `Display`: `replay` has another.
@@ -141,10 +136,10 @@ impl<W: Write> Page<W> {
     pub fn word(&mut self, word: &[u8]) -> io::Result<()> {
         if is_plain(word) {
             self.out.write_all(word)?;
+            self.out.write_all(b" ")
         } else {
-            self.quoted(&Text::new(word))?;
+            self.quoted(&Text::new(word), b"\" ")
         }
-        self.out.write_all(b" ")
     }
 
     // The places that a method listed, each with its content.

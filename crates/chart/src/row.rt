@@ -6,7 +6,7 @@ use cutters::cutter::Cutter;
 use cutters::piece::Piece;
 use substring::Substring;
 
-#[derive(Clone, Copy)]
+#[derive(Drop)]
 pub struct Row<S: AnyStr> {
     pub text: S,
     // where the row begins in the sheet

@@ -1,8 +1,7 @@
 // The places that a method lists: those of split, rsplit and splitlines.
-use super::fill::filled;
+use super::fill::room;
 use super::page::Page;
 use super::stop::Stop;
-use anystr::anystr::AnyStr;
 use anystr::place::Place;
 use anystr::refusal::Refusal;
 use bytesinner::splitargs::SplitArgs;
@@ -10,67 +9,80 @@ use bytesinner::{rsplit, split, splitlines};
 use lines::SplitLinesArgs;
 use searchers::ascii::AsciiStr;
 use std::alloc::Global;
-use std::io::Write;
 
-// The places that `list` writes.
-fn listed<F: Fn(&mut [Place]) -> Result<usize, Refusal>>(
-    heap: Global,
-    list: F,
-) -> Result<Vec<Place>, Stop>
-    requires { F.IsAlwaysCallable list }
-{
-    filled(heap, list)
+// A method that lists places, with its arguments.
+#[derive(Drop)]
+pub enum Listing<S: AsciiStr> {
+    Split(SplitArgs<S>),
+    Rsplit(SplitArgs<S>),
+    Lines(SplitLinesArgs),
 }
 
-// The places of splitlines.
-pub fn lines_of<S: AsciiStr>(
+// Writes the places that the method lists.
+fn list<S: AsciiStr>(
+    sheet: &S,
+    listing: &Listing<S>,
+    places: &mut [Place],
+) -> Result<usize, Refusal> {
+    match listing {
+        Listing::Split(args) => split(sheet, *args, places),
+        Listing::Rsplit(args) => rsplit(sheet, *args, places),
+        Listing::Lines(args) => splitlines(sheet, *args, places),
+    }
+}
+
+// The places that the method lists.
+pub fn listed<S: AsciiStr>(
     heap: Global,
     sheet: &S,
-    args: SplitLinesArgs,
+    listing: &Listing<S>,
 ) -> Result<Vec<Place>, Stop> {
-    listed(heap, |places| splitlines(sheet, args, places))
+    let n = room(list(sheet, listing, &mut []))?;
+    let mut places = vec![in heap; Place::default(); n]?;
+    list(sheet, listing, places.as_mut_slice())?;
+    Ok(places)
 }
 
-// Shows each place that `list` writes with its content, and below them their number, after `name`.
-fn show_listed<W: Write, S: AnyStr, F: Fn(&mut [Place]) -> Result<usize, Refusal>>(
-    page: &mut Page<W>,
+// Shows each place that the method lists with its content, and below them their number, after `name`.
+pub fn show_listed<S: AsciiStr>(
+    page: &mut Page,
     sheet: &S,
     name: &str,
-    list: F,
-) -> Result<(), Stop>
-    requires { F.IsAlwaysCallable list }
-{
-    let places = listed(page.heap, list)?;
+    listing: &Listing<S>,
+) -> Result<(), Stop> {
+    let places = listed(page.heap, sheet, listing)?;
     page.places(sheet, places.as_slice())?;
     Ok(page.line(name, places.len(), "")?)
 }
 
-// Two functions, each with its call: no proof covers a closure round a call that is a generic parameter and takes a text of the sheet's kind.
-pub fn show_split<W: Write, S: AnyStr>(
-    page: &mut Page<W>,
-    sheet: &S,
-    args: SplitArgs<S>,
-) -> Result<(), Stop> {
-    show_listed(page, sheet, "places ", |places| split(sheet, args, places))
+// The arguments of a split, with a separator of the sheet's kind.
+fn split_args<'a, S: TryFrom<&'a [u8], Error = Refusal>>(
+    args: SplitArgs<&'a [u8]>,
+) -> Result<SplitArgs<S>, Refusal> {
+    let sep = match args.sep {
+        Some(bytes) => Some(S::try_from(bytes)?),
+        None => None,
+    };
+    Ok(SplitArgs {
+        sep,
+        maxsplit: args.maxsplit,
+    })
 }
 
-pub fn show_rsplit<W: Write, S: AnyStr>(
-    page: &mut Page<W>,
+pub fn show_split<'a, S: AsciiStr + TryFrom<&'a [u8], Error = Refusal>>(
+    page: &mut Page,
     sheet: &S,
-    args: SplitArgs<S>,
+    args: SplitArgs<&'a [u8]>,
 ) -> Result<(), Stop> {
-    show_listed(page, sheet, "places ", |places| rsplit(sheet, args, places))
+    let args = split_args(args)?;
+    show_listed(page, sheet, "places ", &Listing::Split(args))
 }
 
-pub fn show_lines<W: Write, S: AsciiStr>(
-    page: &mut Page<W>,
+pub fn show_rsplit<'a, S: AsciiStr + TryFrom<&'a [u8], Error = Refusal>>(
+    page: &mut Page,
     sheet: &S,
-    args: SplitLinesArgs,
+    args: SplitArgs<&'a [u8]>,
 ) -> Result<(), Stop> {
-    show_listed(
-        page,
-        sheet,
-        "lines ",
-        |places| splitlines(sheet, args, places),
-    )
+    let args = split_args(args)?;
+    show_listed(page, sheet, "places ", &Listing::Rsplit(args))
 }

@@ -15,12 +15,13 @@ pub enum Misuse {
 
 impl fmt::Display for Misuse {
     fn fmt<W: fmt::Write>(&self, f: &mut fmt::Formatter<W>) -> fmt::Result {
-        match self {
-            Misuse::Unknown => f.write_str("unknown word"),
-            Misuse::Missing => f.write_str("a word is missing"),
-            Misuse::TooMany => f.write_str("too many words"),
-            Misuse::NoNumber => f.write_str("MAXSPLIT and MAXCOUNT are whole numbers"),
-        }
+        let text = match self {
+            Misuse::Unknown => "unknown word",
+            Misuse::Missing => "a word is missing",
+            Misuse::TooMany => "too many words",
+            Misuse::NoNumber => "MAXSPLIT and MAXCOUNT are whole numbers",
+        };
+        f.write_str(text)
     }
 }
 
@@ -55,7 +56,8 @@ pub enum Task<'a> {
 }
 
 fn word<'a>(words: &'a [String], index: usize) -> Option<&'a [u8]> {
-    words.get(index).map(|word| word.as_bytes())
+    let word = words.get(index)?;
+    Some(word.as_bytes())
 }
 
 fn need<'a>(words: &'a [String], index: usize) -> Result<&'a [u8], Misuse> {
@@ -67,8 +69,10 @@ fn bound(words: &[String], index: usize) -> Result<Option<i64>, Misuse> {
     let Some(word) = words.get(index) else {
         return Ok(None);
     };
-    let bound = word.as_str().parse::<i64>().map_err(|_| Misuse::NoNumber)?;
-    Ok(Some(bound))
+    match word.as_str().parse::<i64>() {
+        Ok(bound) => Ok(Some(bound)),
+        Err(_) => Err(Misuse::NoNumber),
+    }
 }
 
 fn at_most(words: &[String], n: usize) -> Result<(), Misuse> {
@@ -119,29 +123,38 @@ fn read_translate<'a>(words: &'a [String]) -> Result<Method<'a>, Misuse> {
     })
 }
 
-fn read_method<'a>(name: &[u8], words: &'a [String]) -> Result<Method<'a>, Misuse> {
+// The methods that have one argument.
+fn read_single<'a>(name: &str, words: &'a [String]) -> Result<Method<'a>, Misuse> {
     match name {
-        b"split" => Ok(Method::Split(read_split(words)?)),
-        b"rsplit" => Ok(Method::Rsplit(read_split(words)?)),
-        b"lines" => Ok(Method::Lines(read_lines(words)?)),
-        b"find" => Ok(Method::Find(only(words)?)),
-        b"rfind" => Ok(Method::Rfind(only(words)?)),
-        b"count" => Ok(Method::Count(only(words)?)),
-        b"replace" => read_replace(words),
-        b"translate" => read_translate(words),
-        b"join" => Ok(Method::Join(only(words)?)),
+        "find" => Ok(Method::Find(only(words)?)),
+        "rfind" => Ok(Method::Rfind(only(words)?)),
+        "count" => Ok(Method::Count(only(words)?)),
+        "join" => Ok(Method::Join(only(words)?)),
         _ => Err(Misuse::Unknown),
+    }
+}
+
+fn read_method<'a>(name: &str, words: &'a [String]) -> Result<Method<'a>, Misuse> {
+    match name {
+        "split" => Ok(Method::Split(read_split(words)?)),
+        "rsplit" => Ok(Method::Rsplit(read_split(words)?)),
+        "lines" => Ok(Method::Lines(read_lines(words)?)),
+        "replace" => read_replace(words),
+        "translate" => read_translate(words),
+        _ => read_single(name, words),
     }
 }
 
 // The task that the words ask for, or what is wrong with them.
 pub fn read_task<'a>(words: &'a [String]) -> Result<Task<'a>, Misuse> {
-    match word(words, 1) {
-        None => Ok(Task::Sheet),
-        Some(b"help") => {
+    let Some(name) = words.get(1) else {
+        return Ok(Task::Sheet);
+    };
+    match name.as_str() {
+        "help" => {
             at_most(words, 2)?;
             Ok(Task::Help)
         }
-        Some(name) => Ok(Task::Method(read_method(name, words)?)),
+        name => Ok(Task::Method(read_method(name, words)?)),
     }
 }
