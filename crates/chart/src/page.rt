@@ -69,24 +69,26 @@ impl Page {
     pub fn field<S: AnyStr>(&mut self, number: usize, place: Place, content: &S) -> io::Result<()> {
         let Place { start, end } = place;
         write!(self.out, "    {number:>4}  {start:>8}..{end:<8}  ")?;
-        self.quoted(content, b"\"\n")
+        self.quoted(content)?;
+        self.out.write_all(b"\n")
     }
 
-    // A text in quotes; `end` is the closing quote and what follows it.
-    fn quoted<S: AnyStr>(&mut self, text: &S, end: &[u8]) -> io::Result<()> {
+    // A text in quotes.
+    fn quoted<S: AnyStr>(&mut self, text: &S) -> io::Result<()> {
         self.content.clear();
         add_text(&mut self.content, text)?;
         self.out.write_all(b"\"")?;
         self.out.write_all(self.content.as_slice())?;
-        self.out.write_all(end)
+        self.out.write_all(b"\"")
     }
 
     // Bytes as text where they are text, and else byte by byte.
     fn poured(&mut self, bytes: &[u8]) -> io::Result<()> {
         match Text::try_from(bytes) {
-            Ok(text) => self.quoted(&text, b"\"\n"),
-            Err(_) => self.quoted(&Bytes::new(bytes), b"\"\n"),
+            Ok(text) => self.quoted(&text)?,
+            Err(_) => self.quoted(&Bytes::new(bytes))?,
         }
+        self.out.write_all(b"\n")
     }
 
     // In the form of this page, and by no `Display`: `replay` has another.
@@ -136,10 +138,10 @@ impl Page {
     pub fn word(&mut self, word: &[u8]) -> io::Result<()> {
         if is_plain(word) {
             self.out.write_all(word)?;
-            self.out.write_all(b" ")
         } else {
-            self.quoted(&Text::new(word), b"\" ")
+            self.quoted(&Text::new(word))?;
         }
+        self.out.write_all(b" ")
     }
 
     // The places that a method listed, each with its content.
