@@ -1,4 +1,5 @@
-use Rattle.std.proofs.Common.{◌+◌, ◌++◌, length, vec_items, ap, ◌∙◌, arith}
+use Rattle.std.proofs.Common.{◌+◌, ◌++◌, length, vec_items, sym, refl, ap, ◌∙◌, arith}
+use Rattle.std.proofs.lemmas.List.{append-nil}
 use Rattle.sheets.specs.Shown.{shown}
 use Rattle.sheets.proofs.Walks.{element_stands, walk_over, shown-more, cut-is}
 use Rattle.sheets.proofs.escapes.add_text.Goals as goal
@@ -45,3 +46,6 @@ returns g c =
     let s = c.args.text.now in
     let inv = c.loop-len.invariant in
     inv.2 ∙ ap (λ xs. vec_items c.args.out.now ++ shown xs) (walk_over (g.S.AnyStr.elements s) inv.0 c.loop-len.start (g.S.AnyStr.filled s) inv.1 c.in_default.ensures.element)
+
+pub loop-len-init : goal.loop-len-init
+loop-len-init g c = (0, refl, sym (append-nil (vec_items c.args.out.now)))

@@ -1,6 +1,8 @@
-use Rattle.std.proofs.Common.{arith}
+use Rattle.std.proofs.Common.{subst, arith}
 use Rattle.std.specs.List.{concat}
 use Rattle.std.proofs.lemmas.Grind.{common_steps}
+use Rattle.searchers.specs.Marks.{FindsBack}
+use Rattle.substring.specs.Occurrences.{occurrence}
 use Rattle.substring.proofs.OnText.{occurrences_on}
 use Rattle.substring.proofs.SubstringReverseSearcher.rfind.Goals as goal
 
@@ -10,3 +12,9 @@ returns-clause-cut g c =
     let t = c.args.self.now.needle in
     let on = occurrences_on (g.S.AnyStr.elements s) (concat (g.S.AnyStr.elements t)) (g.S.AnyStr.whole s t) in
     grind (arith, common_steps)
+
+pub returns-clause-value : goal.returns-clause-value
+returns-clause-value g c =
+    let text = concat (g.S.AnyStr.elements c.args.text.now) in
+    let here = subst (λ bs. FindsBack (occurrence c.pattern.result.bytes.now bs) c.args.before c.last_mark.result) c.as_bytes.ensures c.last_mark.ensures in
+    subst (λ n. FindsBack (occurrence n text) c.args.before c.last_mark.result) c.pattern.ensures here

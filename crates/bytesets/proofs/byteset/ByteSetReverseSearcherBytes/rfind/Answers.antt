@@ -1,8 +1,12 @@
-use Rattle.std.proofs.Common.{arith}
+use Rattle.std.proofs.Common.{subst, arith}
 use Rattle.std.proofs.lemmas.Grind.{common_steps}
-use Rattle.bytesets.specs.Sets.{member}
+use Rattle.searchers.specs.Marks.{FindsBack}
+use Rattle.bytesets.specs.Sets.{member, single}
 use Rattle.bytesets.proofs.OnBytes.{bytes_on}
 use Rattle.bytesets.proofs.byteset.ByteSetReverseSearcherBytes.rfind.Goals as goal
 
 pub returns-clause-cut : goal.returns-clause-cut
 returns-clause-cut c = let on = bytes_on c.args.text.now.bytes.now (member c.args.self.now.has) in grind (arith, common_steps)
+
+pub returns-clause-value : goal.returns-clause-value
+returns-clause-value c = subst (λ bs. FindsBack (single (member c.args.self.now.has) bs) c.args.before c.last_mark.result) c.as_bytes.ensures c.last_mark.ensures
