@@ -57,3 +57,6 @@ returns g c =
       subst (λ (o : Sheet). Played g.S.AnyStr.elements o calls (take n c.loop-i.answers) (g.T.AnyStrContainer.held c.args.tray.now) (length (g.T.AnyStrContainer.spare c.args.tray.now)) (g.T.AnyStrContainer.held c.loop-i.tray) (length (g.T.AnyStrContainer.spare c.loop-i.tray))) same played,
       subst (λ (k : ℕ). drop k c.loop-i.answers ≡ drop k c.args.answers.now) (sym all) inv.1,
     )
+
+pub returns-then-answers-n : goal.returns-then-answers-n
+returns-then-answers-n g c = (c.if-answers-n.true, refl, refl, refl, refl)

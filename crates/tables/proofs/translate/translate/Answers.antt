@@ -1,5 +1,6 @@
 use Rattle.std.proofs.Common.{◌≡◌, length, map, refl, ap, ◌∙◌, arith, rules}
 use Rattle.std.specs.List.{concat}
+use Rattle.std.proofs.lemmas.Grind.{common_steps}
 use Rattle.std.proofs.lemmas.List.{take_all, length-map, length-drop}
 use Rattle.anystr.specs.OfBytes.{singles, concat-singles}
 use Rattle.bytesets.specs.Sets.{among, member}
@@ -7,6 +8,7 @@ use Rattle.tables.specs.Translations.{image, listed, kept, table_in, delete_in}
 use Rattle.tables.proofs.Done.{done, length-done}
 use Rattle.tables.proofs.Translated.{kept-is, undeleted, unmapped}
 use Rattle.tables.proofs.translate.translate.Goals as goal
+use Rattle.tables.proofs.translate.translate.Goals.{then-not-contains+in_ok-push_str, else-not-contains}
 
 pub returns-then-needed-free-clause-value : goal.returns-then-needed-free-clause-value
 returns-then-needed-free-clause-value g c =
@@ -39,3 +41,7 @@ returns g c =
     let p = rw (take_all c.loop-b.b-index bytes c.loop-b-test.false, is) at c.loop-b.invariant in
     let result = map (image table) (kept (among delete) text) in
     record { value = rw c.in_ok-table.ensures.long p; place = λ e. (result, p.1, undeleted table delete text e); gone = λ e. (result, p.1, unmapped table delete text e) }
+
+pub loop-b-preserved : goal.loop-b-preserved
+loop-b-preserved g c =
+    elim c.if-not-contains.branch [ then-not-contains+in_ok-push_str w ↦ grind (arith, common_steps) | else-not-contains w ↦ grind (arith, common_steps) ]

@@ -1,4 +1,4 @@
-use Rattle.std.proofs.Common.{ℕ, sym, ◌∙◌, add-one, arith}
+use Rattle.std.proofs.Common.{◌≡◌, ℕ, sym, refl, ap, ◌∙◌, add-one, arith}
 use Rattle.cuts.specs.Cuts.{next_of, nexts}
 use Rattle.cuts.proofs.Left.{nexts-more, gave}
 use Rattle.cutters.specs.Calls.{sheet, state, span}
@@ -22,3 +22,12 @@ loop-left-preserved g c =
       same_again k here after inv.2 e.same,
       λ b. (e.cut (inv.3 b)).1,
     )
+
+pub loop-left-init : goal.loop-left-init
+loop-left-init g c = (refl, omega arith, record { text = refl; searcher = refl; bound = refl }, λ b. b)
+
+pub returns-clause-step : goal.returns-clause-step
+returns-clause-step g c =
+    let k = c.args.self.now in
+    let all : c.loop-left.left ≡ c.args.n = omega arith in
+    (omega (arith, all), c.loop-left.invariant.0 ∙ ap (λ n. nexts (sheet g.F.Searcher.marks g.S.AnyStr.elements k) n (state k)) all)

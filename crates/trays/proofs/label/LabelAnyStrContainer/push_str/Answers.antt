@@ -1,6 +1,8 @@
-use Rattle.std.proofs.Common.{◌∙◌, arith, length-drop}
+use Rattle.std.proofs.Common.{ℕ, Ok, Err, ◌∙◌, arith, length-drop}
 use Rattle.trays.specs.Trays.{label_bytes}
 use Rattle.trays.proofs.Writes.{clear}
+use Rattle.std.proofs.lemmas.Result.{err_from_is_err_and}
+use Rattle.trays.proofs.Pushes.{pushed_as}
 use Rattle.trays.proofs.label.LabelAnyStrContainer.push_str.Goals as goal
 
 pub invariant_of-self-2 : goal.invariant_of-self-2
@@ -11,3 +13,11 @@ invariant_of-self-2 g c =
       fits = omega (arith, p, length-drop l.len l.bytes);
       clear = p.1.2 ∙ clear l.bytes label_bytes l.len _ _ l.clear p.0;
     }
+
+pub returns-in_err-self : goal.returns-in_err-self
+returns-in_err-self g c =
+    let p = err_from_is_err_and c.from_residual.result c.from_residual.ensures.1 in
+    rw (p.1, p.2) (pushed_as {X = ℕ} _ _ _ _ _ _ (Err c.in_err-self.field-0.0) c.in_err-self.ensures.1 (cc))
+
+pub returns : goal.returns
+returns g c = pushed_as _ _ _ _ _ _ (Ok c.in_ok-self.field-0) c.in_ok-self.ensures.1 (cc)
