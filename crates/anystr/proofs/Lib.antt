@@ -1,2 +1,3 @@
 pub mod Begins
+pub mod Mapped
 pub mod Parts
