@@ -1,1 +1,8 @@
-pub mod Splits
+pub mod Splitting
+pub mod splits
+pub mod words
+pub mod lines
+pub mod finds
+pub mod tables
+pub mod joins
+pub mod replaces

@@ -2,15 +2,15 @@
 ghost use Rattle.std.specs.Option.{option_map};
 ghost use Rattle.std.specs.List.{concat};
 ghost use Rattle.anystr.specs.Places.{Lists};
-ghost use Rattle.bytesinner.specs.Splits.{splits_of, rsplits_of, SplitLaw, RsplitLaw};
+ghost use Rattle.bytesinner.specs.Splitting.{splits_of, rsplits_of, SplitLaw, RsplitLaw};
 
 use super::splitargs::SplitArgs;
+use crate::splits::rsplit::rsplit_str;
+use crate::splits::split::split_str;
+use crate::words::split::{rsplit_whitespace, split_whitespace};
 use anystr::anystr::AnyStr;
 use anystr::place::Place;
 use anystr::refusal::Refusal;
-use splits::rsplit::rsplit_str;
-use splits::split::split_str;
-use words::split::{rsplit_whitespace, split_whitespace};
 
 // Lists the places that a text is split into from the front. An empty separator is refused, and then a list with
 // too few entries.

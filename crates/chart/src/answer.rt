@@ -6,9 +6,9 @@ use super::stop::Stop;
 use super::task::Method;
 use anystr::bytes::Bytes;
 use anystr::refusal::Refusal;
+use bytesinner::finds::either::Either;
+use bytesinner::finds::options::ByteInnerFindOptions;
 use bytesinner::{count, find, rfind};
-use finds::either::Either;
-use finds::options::ByteInnerFindOptions;
 use searchers::ascii::AsciiStr;
 
 // Looks for `sub` in the whole sheet.

@@ -8,12 +8,12 @@ use anystr::bytes::Bytes;
 use anystr::optional::OptionalArg;
 use anystr::place::Place;
 use anystr::refusal::Refusal;
-use bytesets::byteset::BYTE_VALUES;
+use bytesinner::lines::SplitLinesArgs;
+use bytesinner::tables::translate::ByteInnerTranslateOptions;
 use bytesinner::{join, maketrans, replace, translate};
-use lines::SplitLinesArgs;
 use searchers::ascii::AsciiStr;
+use searchers::bytesets::byteset::BYTE_VALUES;
 use std::alloc::Global;
-use tables::translate::ByteInnerTranslateOptions;
 use text::Text;
 use trays::buffer::Buffer;
 

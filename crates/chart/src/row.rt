@@ -4,7 +4,7 @@ use anystr::place::Place;
 use cutters::bound::UNBOUNDED;
 use cutters::cutter::Cutter;
 use cutters::piece::Piece;
-use substring::Substring;
+use searchers::substring::Substring;
 
 #[derive(Drop)]
 pub struct Row<S: AnyStr> {

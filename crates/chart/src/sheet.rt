@@ -4,15 +4,15 @@ use super::page::{Page, Tally};
 use super::row::Row;
 use super::stop::Stop;
 use anystr::refusal::Refusal;
-use bytesets::asciiset::AsciiSet;
 use cutters::bound::UNBOUNDED;
 use cutters::cutter::Cutter;
 use cutters::piece::Piece;
-use lineends::LineEnds;
 use searchers::ascii::AsciiStr;
+use searchers::bytesets::asciiset::AsciiSet;
+use searchers::lineends::LineEnds;
+use searchers::substring::Substring;
 use sheets::counts::count_in;
 use std::io;
-use substring::Substring;
 
 const COMMA: &[u8] = b",";
 

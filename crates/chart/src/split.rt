@@ -4,9 +4,9 @@ use super::page::Page;
 use super::stop::Stop;
 use anystr::place::Place;
 use anystr::refusal::Refusal;
+use bytesinner::lines::SplitLinesArgs;
 use bytesinner::splitargs::SplitArgs;
 use bytesinner::{rsplit, split, splitlines};
-use lines::SplitLinesArgs;
 use searchers::ascii::AsciiStr;
 use std::alloc::Global;
 

@@ -1,7 +1,7 @@
 // What the words ask for, of which the first is the program's name.
+use bytesinner::lines::SplitLinesArgs;
 use bytesinner::splitargs::SplitArgs;
 use cutters::bound::UNBOUNDED;
-use lines::SplitLinesArgs;
 use std::fmt;
 
 // What is wrong with the words.

@@ -4,5 +4,6 @@
 pub mod bound;
 pub mod cutter;
 pub mod piece;
+pub mod pieces;
 pub mod play;
 pub mod progress;

@@ -1,7 +1,7 @@
 // What a line asks.
 use anystr::place::Place;
-use finds::either::Either;
-use lines::SplitLinesArgs;
+use bytesinner::finds::either::Either;
+use bytesinner::lines::SplitLinesArgs;
 
 // The end of a text that a method begins at.
 #[derive(Clone, Copy)]

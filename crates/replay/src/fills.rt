@@ -5,8 +5,8 @@ use super::fault::Fault;
 use super::kind::Kind;
 use anystr::bytes::Bytes;
 use anystr::optional::OptionalArg;
+use bytesinner::tables::translate::ByteInnerTranslateOptions;
 use bytesinner::{join, maketrans, replace, translate};
-use tables::translate::ByteInnerTranslateOptions;
 
 // What a tray holds is written after this word.
 const FILLED: &str = "bytes";

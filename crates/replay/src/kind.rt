@@ -2,9 +2,9 @@
 use super::page::write_bytes;
 use anystr::bytes::Bytes;
 use anystr::refusal::Refusal;
-use bytesets::asciiset::AsciiSet;
-use bytesets::byteset::ByteSet;
 use searchers::ascii::AsciiStr;
+use searchers::bytesets::asciiset::AsciiSet;
+use searchers::bytesets::byteset::ByteSet;
 use searchers::searcher::ReverseSearcher;
 use std::alloc::AllocError;
 use text::Text;

@@ -4,8 +4,8 @@ use super::fault::Fault;
 use anystr::bytes::Bytes;
 use anystr::refusal::Refusal;
 use bytesinner::count;
-use finds::either::Either;
-use finds::options::ByteInnerFindOptions;
+use bytesinner::finds::either::Either;
+use bytesinner::finds::options::ByteInnerFindOptions;
 
 fn options(case: &Find) -> ByteInnerFindOptions<'_> {
     ByteInnerFindOptions {

@@ -7,8 +7,8 @@ use super::fault::Fault;
 use super::line::Words;
 use super::word::FromWord;
 use anystr::place::Place;
-use finds::either::Either;
-use lines::SplitLinesArgs;
+use bytesinner::finds::either::Either;
+use bytesinner::lines::SplitLinesArgs;
 use std::alloc::Global;
 
 const NO_PLACES: &str = ".";

@@ -6,11 +6,11 @@ use super::kind::Kind;
 use super::page::settle;
 use anystr::refusal::Refusal;
 use cutters::cutter::Cutter;
-use lineends::LineEnds;
+use searchers::lineends::LineEnds;
 use searchers::mark::Mark;
 use searchers::searcher::{ReverseSearcher, Searcher};
+use searchers::substring::Substring;
 use std::alloc::AllocError;
-use substring::Substring;
 
 fn write_mark(mark: Option<Mark>, page: &mut String) -> Result<(), AllocError> {
     match mark {

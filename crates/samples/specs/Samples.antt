@@ -6,13 +6,13 @@ use Rattle.anystr.specs.Places.{part}
 use Rattle.anystr.specs.declared.optional.OptionalArg.{OptionalArg}
 use Rattle.anystr.specs.declared.optional.OptionalArg.TheVariants.{Present, Missing}
 use Rattle.searchers.specs.Marks.{Span}
-use Rattle.substring.specs.Occurrences.{occurrence}
+use Rattle.searchers.specs.substring.Occurrences.{occurrence}
 use Rattle.cuts.specs.Cuts.{Sheet, State, opened, pieces_left, next_of, nexts}
-use Rattle.finds.specs.Counts.{count_of}
-use Rattle.finds.specs.Places.{find_of}
-use Rattle.lines.specs.Lines.{lines_of}
-use Rattle.replaces.specs.Replaces.{replace_of, bound_of, unbounded}
-use Rattle.bytesinner.specs.Splits.{splits_of, rsplits_of}
+use Rattle.bytesinner.specs.finds.Counts.{count_of}
+use Rattle.bytesinner.specs.finds.Places.{find_of}
+use Rattle.bytesinner.specs.lines.Lines.{lines_of}
+use Rattle.bytesinner.specs.replaces.Replaces.{replace_of, bound_of, unbounded}
+use Rattle.bytesinner.specs.Splitting.{splits_of, rsplits_of}
 
 -- what a definition gives
 pub data Outcome : Type 0 where

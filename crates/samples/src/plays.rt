@@ -5,7 +5,7 @@ use anystr::refusal::Refusal;
 use cutters::bound::UNBOUNDED;
 use cutters::piece::Piece;
 use cutters::play::{Answer, Call, play};
-use substring::Substring;
+use searchers::substring::Substring;
 use trays::label::Label;
 
 // no call below answers so

@@ -2,9 +2,9 @@
 use super::codes::code;
 use anystr::anystr::AnyStr;
 use anystr::bytes::Bytes;
-use bytesets::asciiset::AsciiSet;
+use searchers::bytesets::asciiset::AsciiSet;
 use searchers::searcher::{ReverseSearcher, Searcher};
-use substring::Substring;
+use searchers::substring::Substring;
 use text::Text;
 
 #[test]

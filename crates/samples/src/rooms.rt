@@ -6,7 +6,7 @@ use anystr::optional::OptionalArg;
 use bytesinner::replace;
 use cutters::bound::UNBOUNDED;
 use cutters::cutter::Cutter;
-use lineends::LineEnds;
+use searchers::lineends::LineEnds;
 use trays::buffer::Buffer;
 use trays::container::AnyStrContainer;
 use trays::label::{LABEL_BYTES, Label};

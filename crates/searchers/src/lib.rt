@@ -2,7 +2,10 @@
 #![tactic(auto)]
 
 pub mod ascii;
+pub mod bytesets;
 pub mod count;
+pub mod lineends;
 pub mod mark;
 pub mod scan;
 pub mod searcher;
+pub mod substring;

@@ -6,7 +6,7 @@ use Rattle.std.proofs.lemmas.List.Sums.{sum_by-drop_more}
 use Rattle.std.proofs.lemmas.Bool.{cond-true, cond-false, cases_Bool, and_from, lt-ltb, eq-eqb}
 use Rattle.searchers.specs.Marks.{Least, NoneFrom, CutTimes}
 use Rattle.searchers.specs.Truth.{truth}
-use Rattle.bytesets.specs.Sets.{single, single-is}
+use Rattle.searchers.specs.bytesets.Sets.{single, single-is}
 
 module _ (set : ℕ → Bool) (bs : List ℕ) where
   -- how many bytes of the set stand at an offset or after it

@@ -1,10 +1,10 @@
 // How many bytes of a text are in a set.
 ghost use Rattle.std.specs.Prelude.{◌≡◌, count_by};
 ghost use Rattle.std.specs.List.{concat};
-ghost use Rattle.bytesets.specs.Sets.{member};
+ghost use Rattle.searchers.specs.bytesets.Sets.{member};
 
-use bytesets::asciiset::AsciiSet;
 use searchers::ascii::AsciiStr;
+use searchers::bytesets::asciiset::AsciiSet;
 use searchers::count::count_marks;
 
 // How many bytes of the text are in the set.

@@ -1,6 +1,6 @@
 use Rattle.std.proofs.Common.{arith}
 use Rattle.std.specs.List.{concat}
-use Rattle.bytesets.specs.Sets.{member}
+use Rattle.searchers.specs.bytesets.Sets.{member}
 use Rattle.sheets.proofs.Counting.{cut-count}
 use Rattle.sheets.proofs.counts.count_in.Goals as goal
 

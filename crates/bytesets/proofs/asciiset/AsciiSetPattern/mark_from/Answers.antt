@@ -1,4 +1,0 @@
-use Rattle.bytesets.proofs.asciiset.AsciiSetPattern.mark_from.Goals as goal
-
-pub returns : goal.returns
-returns c = c.mark_from.ensures

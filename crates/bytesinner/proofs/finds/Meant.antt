@@ -1,0 +1,84 @@
+-- What options mean, where they are not refused.
+use Rattle.std.proofs.Common.{◌≡◌, ℕ, ◌<◌, ◌≤◌, Bool, true, false, cond, eqb, leb, List, [], ◌∷◌, length, ℤ, Some, None, Ok, Err, Option, Result, sym, refl, ap, ◌∙◌, arith, Bor}
+use Rattle.std.proofs.lemmas.Bool.{eqb-true, eqb-false, leb-true}
+use Rattle.std.specs.List.{concat}
+use Rattle.anystr.specs.Indices.{start_of, end_of}
+use Rattle.anystr.specs.Limits.{most_bytes}
+use Rattle.anystr.specs.OfBytes.{singles, concat-singles}
+use Rattle.anystr.specs.Refusals.{coded}
+use Rattle.anystr.specs.declared.bytes.Bytes.{Bytes}
+use Rattle.anystr.specs.declared.refusal.Refusal.{Refusal}
+use Rattle.bytesinner.specs.declared.finds.either.Either.{Either}
+use Rattle.bytesinner.specs.declared.finds.either.Either.TheVariants.{A, B}
+use Rattle.bytesinner.specs.declared.finds.options.ByteInnerFindOptions.{ByteInnerFindOptions}
+use Rattle.bytesinner.specs.declared.finds.stretch.Stretch.{Stretch}
+use Rattle.bytesinner.specs.finds.Asked.{byte_of, single, sub_of, for_needle, Sought, sought, asked, Kept, Keeps, Meant}
+
+-- an end that is meant is within the text
+pub end-within : (end : Option ℤ) (len : ℕ) → end_of end len ≤ len
+end-within None len = omega arith
+end-within (Some i) len = omega arith
+
+single-short : (r : Result ℕ (ℕ × ℕ)) (n : List ℕ) → single r ≡ Ok n → length n ≤ most_bytes
+single-short (Ok b) n e = let one : n ≡ b ∷ [] = cc in omega (arith, ap length one)
+single-short (Err c) n e = cc
+
+-- a needle is not too long
+sub-short : (s : Either (Bor (List ℕ)) ℤ) (n : List ℕ) → sub_of s ≡ Ok n → length n ≤ most_bytes
+sub-short (A bytes) n e = by (leb (length bytes.now) most_bytes) refl e
+  where
+    by : (t : Bool) → leb (length bytes.now) most_bytes ≡ t → cond {A = Result (List ℕ) (ℕ × ℕ)} t (Ok bytes.now) (Err (6, 0)) ≡ Ok n → length n ≤ most_bytes
+    by true t e = let same : n ≡ bytes.now = cc in omega (arith, ap length same, leb-true (length bytes.now) most_bytes t)
+    by false t e = cc
+sub-short (B number) n e = single-short (byte_of number) n e
+
+-- the needle and the offsets in an answer that is not refused
+read_back : (o : ByteInnerFindOptions) (len : ℕ) (n : List ℕ) (a b : ℕ) (s : Result (List ℕ) (ℕ × ℕ)) → sub_of o.sub ≡ s
+    → Ok (sought n a b) ≡ for_needle (λ m. sought m (start_of o.start len) (end_of o.end len)) s → (sub_of o.sub ≡ Ok n) × (a ≡ start_of o.start len) × (b ≡ end_of o.end len)
+read_back o len n a b (Ok m) is e =
+    let all : sought n a b ≡ sought m (start_of o.start len) (end_of o.end len) = cc in
+    (is ∙ ap Ok (ap (λ (v : Sought). v.0) (sym all)), ap (λ (v : Sought). v.1) all, ap (λ (v : Sought). v.2) all)
+read_back o len n a b (Err c) is e = cc
+
+-- the needle and the offsets that are read from options, where the text has `len` bytes
+module _ (o : ByteInnerFindOptions) (bs needle : List ℕ) (len a b : ℕ) (e : Ok (sought needle a b) ≡ asked sought o len) (size : len ≡ length (concat (singles bs))) where
+  from_options : (sub_of o.sub ≡ Ok needle) × (a ≡ start_of o.start (length bs)) × (b ≡ end_of o.end (length bs))
+  from_options = read_back o (length bs) needle a b (sub_of o.sub) refl (e ∙ ap (asked sought o) (size ∙ ap length (concat-singles bs)))
+
+  pub offset-within : b ≤ length bs
+  offset-within = omega (arith, from_options.2, end-within o.end (length bs))
+
+-- the text that is made of a needle's bytes has them
+pub meant : (o : ByteInnerFindOptions) (text : Bytes) (stretch : Stretch) (needle given made : List ℕ) (len : ℕ) → stretch.text ≡ text → Ok (sought needle stretch.range.start stretch.range.end) ≡ asked sought o len
+    → len ≡ length (concat (singles text.bytes.now)) → given ≡ needle → (length given ≤ most_bytes → singles made ≡ singles given) → Meant o text stretch made
+meant o text stretch needle given made len whole e size is new =
+    let m = from_options o text.bytes.now needle len stretch.range.start stretch.range.end e size in
+    let short : length given ≤ most_bytes = omega (arith, ap length is, sub-short o.sub needle m.0) in
+    let same : needle ≡ made = sym (sym (concat-singles made) ∙ (ap concat (new short) ∙ (concat-singles given ∙ is))) in
+    record { whole = whole; sub = m.0 ∙ ap Ok same; start = m.1; end = m.2 }
+
+-- an answer by its rule, and a rule by its answer
+module _ {X : Type 0} (f : List ℕ → ℕ → ℕ → X) (rule : List ℕ → ℕ → ℕ → X → Type 0) (o : ByteInnerFindOptions) (len : ℕ) where
+  pub answers : ((n : List ℕ) (a b : ℕ) (x : X) → b ≤ len → rule n a b x → x ≡ f n a b) → (r : Result X Refusal) → Keeps rule o len r → coded r ≡ asked f o len
+  answers is r keeps = by (sub_of o.sub) r keeps
+    where
+      by : (s : Result (List ℕ) (ℕ × ℕ)) (r : Result X Refusal) → Kept (λ n. rule n (start_of o.start len) (end_of o.end len)) s r → coded r ≡ for_needle (λ n. f n (start_of o.start len) (end_of o.end len)) s
+      by (Ok n) (Ok x) k = ap Ok (is n _ _ x (end-within o.end len) k)
+      by (Ok n) (Err e) k = absurd k
+      by (Err c) (Ok x) k = absurd k
+      by (Err c) (Err e) k = ap Err k
+
+  pub keeps : ((n : List ℕ) (a b : ℕ) (x : X) → b ≤ len → x ≡ f n a b → rule n a b x) → (r : Result X Refusal) → coded r ≡ asked f o len → Keeps rule o len r
+  keeps holds r answers = by (sub_of o.sub) r answers
+    where
+      by : (s : Result (List ℕ) (ℕ × ℕ)) (r : Result X Refusal) → coded r ≡ for_needle (λ n. f n (start_of o.start len) (end_of o.end len)) s → Kept (λ n. rule n (start_of o.start len) (end_of o.end len)) s r
+      by (Ok n) (Ok x) e = holds n _ _ x (end-within o.end len) cc
+      by (Ok n) (Err c) e = cc
+      by (Err c) (Ok x) e = cc
+      by (Err c) (Err d) e = cc
+
+pub some : (n : List ℕ) → false ≡ eqb (length (concat (singles n))) 0 → 0 < length n
+some n e = let other = eqb-false (length (concat (singles n))) 0 (sym e) in let same = ap length (concat-singles n) in omega arith
+
+pub none : (n : List ℕ) → true ≡ eqb (length (concat (singles n))) 0 → length n ≡ 0
+none n e = sym (ap length (concat-singles n)) ∙ eqb-true (length (concat (singles n))) 0 (sym e)

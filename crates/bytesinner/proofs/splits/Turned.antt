@@ -1,0 +1,60 @@
+-- A list of places that is turned round.
+use Rattle.std.proofs.Common.{◌≡◌, ℕ, ◌<◌, List, [], ◌∷◌, ◌++◌, map, reverse, length, take, drop, ℤ, Ok, Err, Result, sym, refl, ap, ◌∙◌, arith}
+use mathlib.Core.List.{reverse-cons}
+use Rattle.std.specs.List.{concat}
+use Rattle.std.proofs.lemmas.List.{map_push, length-map, length-reverse, take_at, drop_at}
+use Rattle.anystr.specs.Places.{Lists, stretch, stretches}
+use Rattle.anystr.specs.declared.anystr.AnyStr
+use Rattle.anystr.specs.declared.place.Place.{Place}
+use Rattle.anystr.specs.declared.refusal.Refusal.{Refusal}
+use Rattle.searchers.specs.Marks.{Marks, Span}
+use Rattle.searchers.specs.declared.searcher.Searcher
+use Rattle.searchers.specs.substring.Occurrences.{occurrence}
+use Rattle.searchers.specs.declared.substring.Substring.{Substring}
+use Rattle.cuts.specs.Cuts.{opened}
+use Rattle.cuts.specs.Splits.{pieces_of, flip, mirror, left_back}
+use Rattle.bytesinner.specs.splits.Back.{sheet, state}
+use Rattle.bytesinner.specs.splits.Separated.{separated}
+use Rattle.bytesinner.specs.declared.splits.back.BackCutter.{BackCutter}
+
+-- the places between the separators that are cut from the end, as they come
+abbrev pub from_back : (bytes sep : List ℕ) → ℤ → List Span
+from_back bytes sep maxsplit = map (flip (length bytes)) (pieces_of (mirror (occurrence sep bytes) (length bytes)) (length bytes) maxsplit)
+
+-- what a cutter from the end has left where it has just been opened
+module _ {S C : Type 0} (elements : S → List (List ℕ)) where
+  abbrev found : Substring S C → List (List ℕ) → Marks
+  found f es = occurrence (concat (elements f.needle)) (concat es)
+
+  pub opened-left : {s : AnyStr.Ghosts S C} {f : Searcher.Ghosts (Substring S C) S C} (c : BackCutter S (Substring S C) C s f) (text sep : S) (searcher : Substring S C) (bound : ℤ)
+      → c.text ≡ text → c.searcher ≡ searcher → c.bound ≡ bound → state elements c ≡ opened → searcher.needle ≡ sep
+      → left_back (sheet found elements c) (state elements c) ≡ from_back (concat (elements text)) (concat (elements sep)) bound
+  opened-left c text sep searcher bound on for upto at_first needle =
+      (λ i. left_back (record { marks = found (for i) (elements (on i)); bytes = concat (elements (on i)); bound = upto i }) (at_first i))
+      ∙ (λ i. from_back (concat (elements text)) (concat (elements (needle i))) bound)
+
+stretches-reverse : (ps : List Place) → stretches (reverse ps) ≡ reverse (stretches ps)
+stretches-reverse [] = refl
+stretches-reverse (p ∷ ps) =
+    ap stretches (reverse-cons p ps) ∙ (map_push stretch (reverse ps) p ∙ (ap (λ (qs : List Span). qs ++ stretch p ∷ []) (stretches-reverse ps) ∙ sym (reverse-cons (stretch p) (stretches ps))))
+
+-- a separator that is not empty is not refused
+pub accepted : (sep : List ℕ) (qs : List Span) (list list' : List Place) (r : Result ℕ Refusal) → 0 < length sep → Lists (Ok qs) list list' r → Lists (separated sep qs) list list' r
+accepted [] qs list list' r some h = absurd (omega arith)
+accepted (b ∷ bs) qs list list' r some h = h
+
+-- the first n places are turned round
+pub turned-listed : (qs : List Span) (list list' front : List Place) (n : ℕ) → Lists (Ok qs) list list' (Ok n) → front ≡ reverse (take n list') → Lists (Ok (reverse qs)) list (front ++ drop n list') (Ok n)
+turned-listed qs list list' front n h is =
+    let long : length front ≡ n = ap length is ∙ (length-reverse (take n list') ∙ (sym (length-map (take n list') stretch) ∙ (ap length h.2 ∙ sym h.0))) in
+    let same = length-reverse qs in (
+      h.0 ∙ sym same,
+      omega (arith, h.1),
+      ap stretches (take_at front (drop n list') n long ∙ is) ∙ (stretches-reverse (take n list') ∙ ap reverse h.2),
+      drop_at front (drop n list') n long ∙ h.3,
+    )
+
+pub turned-refused : (qs : List Span) (list list' : List Place) (e : Refusal) → Lists (Ok qs) list list' (Err e) → Lists (Ok (reverse qs)) list list' (Err e)
+turned-refused qs list list' e h =
+    let same = length-reverse qs in
+    (omega (arith, h.0), h.1 ∙ (λ i. (7, sym same i)), h.2)

@@ -1,0 +1,40 @@
+use Rattle.std.proofs.Common.{List, ◌++◌, reverse, drop, Ok, Err, ◌∙◌, subst, w64}
+use Rattle.std.proofs.lemmas.Int.{to_z-of_z}
+use Rattle.std.proofs.lemmas.Result.{err_from_is_err_and}
+use Rattle.std.specs.List.{concat}
+use Rattle.anystr.specs.Places.{Lists}
+use Rattle.searchers.specs.Marks.{Span}
+use Rattle.bytesinner.proofs.splits.Laws.{rsplit-kept}
+use Rattle.bytesinner.proofs.splits.Turned.{from_back, opened-left, accepted, turned-listed, turned-refused}
+use Rattle.bytesinner.proofs.splits.rsplit.rsplit_str.Goals as goal
+
+pub returns-in_err-n : goal.returns-in_err-n
+returns-in_err-n g c =
+    let sep = concat (g.S.AnyStr.elements c.args.sep.now) in
+    let qs = from_back (concat (g.S.AnyStr.elements c.args.text.now)) sep c.args.maxsplit in
+    let list = c.args.places.now in
+    let list' = c.list.new.places in
+    let e = c.in_err-n.field-0.0 in
+    let b = c.open.ensures in
+    let is = opened-left g.S.AnyStr.elements c.open.result c.args.text.now c.args.sep.now c.new.result c.args.maxsplit b.on.0 b.on.1 (b.on.2 ∙ to_z-of_z w64 c.args.maxsplit c.ranges.maxsplit) b.state c.new.ensures in
+    let there : Lists (Ok qs) list list' (Err e) = subst (λ (ps : List Span). Lists (Ok ps) list list' (Err e)) is c.in_err-n.ensures in
+    let here = accepted sep (reverse qs) list list' (Err e) c.in_ok-check.ensures (turned-refused qs list list' e there) in
+    let p = err_from_is_err_and c.from_residual-in_err-n.result c.from_residual-in_err-n.ensures.1 in
+    rw (p.1, p.2) (record { list = here; rule = tt; restores = tt; cut = tt })
+
+pub returns : goal.returns
+returns g c =
+    let es = g.S.AnyStr.elements c.args.text.now in
+    let sep = concat (g.S.AnyStr.elements c.args.sep.now) in
+    let qs = from_back (concat es) sep c.args.maxsplit in
+    let list = c.args.places.now in
+    let list' = c.list.new.places in
+    let n = c.in_ok-n.n in
+    let b = c.open.ensures in
+    let front = c.reverse.new.self in
+    let list'' = front ++ drop n list' in
+    let is = opened-left g.S.AnyStr.elements c.open.result c.args.text.now c.args.sep.now c.new.result c.args.maxsplit b.on.0 b.on.1 (b.on.2 ∙ to_z-of_z w64 c.args.maxsplit c.ranges.maxsplit) b.state c.new.ensures in
+    let there : Lists (Ok qs) list list' (Ok n) = subst (λ (ps : List Span). Lists (Ok ps) list list' (Ok n)) is c.in_ok-n.ensures in
+    let here = accepted sep (reverse qs) list list'' (Ok n) c.in_ok-check.ensures (turned-listed qs list list' front n there c.reverse.ensures.after) in
+    let k = rsplit-kept es sep (g.S.AnyStr.whole c.args.text.now c.args.sep.now) c.args.maxsplit list list'' (Ok n) here in
+    record { list = here; rule = k.rule; restores = k.restores; cut = k.cut }

@@ -1,0 +1,160 @@
+-- The lists that a bound makes of the runs, as they are written.
+use Rattle.std.proofs.Common.{◌≡◌, ℕ, zero, suc, ◌+◌, ◌-◌, ◌<◌, ◌≤◌, min, ltb, List, [], ◌∷◌, ◌++◌, length, get_or, take, drop, set, ℤ, pos, negsuc, Ok, sym, refl, ap, ◌∙◌, subst, ⊎_elim, arith, length-drop, length-take, w64, SFits, to_z, of_z}
+use Rattle.std.proofs.lemmas.List.{take_all, drop-set-lt, length-map, take-append-le, drop-append-le, take-append-drop}
+use Rattle.std.proofs.lemmas.Bool.{lt-ltb, le-ltb, cases_lt, cond-true, cond-false}
+use Rattle.std.proofs.lemmas.Int.{to_z-of_z}
+use Rattle.anystr.specs.Places.{stretch, stretches, Lists}
+use Rattle.anystr.specs.declared.place.Place.{Place}
+use Rattle.searchers.specs.Marks.{Span}
+use Rattle.cutters.specs.pieces.Sources.{Filled}
+use Rattle.bytesinner.specs.words.Words.{alone, to_end, from_start, words_of, rwords_of}
+
+pub alone-within : (total : ℕ) (bound : ℤ) → alone total bound ≤ total
+alone-within total (pos b) = omega arith
+alone-within total (negsuc b) = omega arith
+
+-- the room that was given
+pub record Given (m len n : ℕ) : Type 0 where
+  pub is : n ≡ m
+  pub fits : m ≤ len
+
+length-to_end : (len : ℕ) (rs : List Span) → length (to_end len rs) ≡ length rs
+length-to_end len [] = refl
+length-to_end len (r ∷ []) = refl
+length-to_end len (r ∷ s ∷ rs) = ap suc (length-to_end len (s ∷ rs))
+
+length-from_start : (rs : List Span) → length (from_start rs) ≡ length rs
+length-from_start [] = refl
+length-from_start (r ∷ rs) = refl
+
+-- the last place that is written goes on to `len`
+set_end : (list : List Place) (a len : ℕ) (d : Place) → a < length list → stretches (take (suc a) (set list a (record { start = (get_or list a d).start; end = len }))) ≡ to_end len (stretches (take (suc a) list))
+set_end [] a len d lt = absurd (omega arith)
+set_end (x ∷ xs) zero len d lt = refl
+set_end (x ∷ []) (suc a) len d lt = absurd (omega arith)
+set_end (x ∷ y ∷ ys) (suc a) len d lt = ap {B = List Span} (λ rs. (x.start, x.end) ∷ rs) (set_end (y ∷ ys) a len d (omega arith))
+
+-- the first place begins at 0
+set_start : (list : List Place) (a : ℕ) (d : Place) → 0 < length list → stretches (take (suc a) (set list 0 (record { start = 0; end = (get_or list 0 d).end }))) ≡ from_start (stretches (take (suc a) list))
+set_start [] a d lt = absurd (omega arith)
+set_start (x ∷ xs) a d lt = refl
+
+-- a list whose first entries were written from another list of stretches
+lists : (ps : List Span) (list list' : List Place) (n : ℕ) → n ≡ length ps → n ≤ length list → stretches (take n list') ≡ ps → drop n list' ≡ drop n list → Lists (Ok ps) list list' (Ok n)
+lists ps list list' n is fits written others = (is, omega arith, written, others)
+
+-- the same by what was written, for a number of pieces that came
+record Put (ps : List Span) (n : ℕ) (list list' : List Place) : Type 0 where
+  written : stretches (take n list') ≡ ps
+  others : drop n list' ≡ drop n list
+  within : n ≤ length list'
+
+put : (ps : List Span) (n : ℕ) (list list' : List Place) → length ps ≡ n → Filled ps list list' → Put ps n list list'
+put ps n list list' l f =
+    let w : stretches (take n list') ≡ ps = subst (λ (k : ℕ). stretches (take k list') ≡ ps) l f.written in
+    record {
+      written = w;
+      others = subst (λ (k : ℕ). drop k list' ≡ drop k list) l f.others;
+      within = omega (arith, ap length w, length-map (take n list') stretch, length-take n list');
+    }
+
+-- the number of the places that are wanted: of all the runs, those that stay and one more
+pub record Wanted (rs : List Span) (bound : ℤ) (total a m : ℕ) : Type 0 where
+  pub total_is : total ≡ length rs
+  pub alone_is : a ≡ alone total bound
+  pub is : m ≡ min total (a + 1)
+
+pub wanted : {rs : List Span} {bound : ℤ} {total a m : ℕ} → total ≡ length rs → SFits w64 bound → a ≡ alone total (to_z w64 (of_z w64 bound)) → m ≡ min total (a + 1) → Wanted rs bound total a m
+wanted {total = total} t fits a m = record { total_is = t; alone_is = a ∙ ap (alone total) (to_z-of_z w64 _ fits); is = m }
+
+-- what a list past its end is read as
+abbrev none : Place
+none = record { start = 0; end = 0 }
+
+module _ (rs : List Span) (bound : ℤ) (total a m : ℕ) (w : Wanted rs bound total a m) where
+  stay : alone (length rs) bound ≡ a
+  stay = ap (λ (t : ℕ). alone t bound) (sym w.total_is) ∙ sym w.alone_is
+
+  few : a ≤ total
+  few = omega (arith, w.alone_is, alone-within total bound)
+
+  module _ (len : ℕ) where
+    words_whole : total ≤ a → words_of rs len bound ≡ rs
+    words_whole le = cond-false (ltb (alone (length rs) bound) (length rs)) _ _ (le-ltb _ _ (omega (arith, stay, w.total_is)))
+
+    words_cut : a < total → words_of rs len bound ≡ to_end len (take (suc a) rs)
+    words_cut lt = cond-true (ltb (alone (length rs) bound) (length rs)) _ _ (lt-ltb _ _ (omega (arith, stay, w.total_is))) ∙ ap (λ (k : ℕ). to_end len (take (suc k) rs)) stay
+
+  rwords_whole : total ≤ a → rwords_of rs bound ≡ rs
+  rwords_whole le = cond-false (ltb (alone (length rs) bound) (length rs)) _ _ (le-ltb _ _ (omega (arith, stay, w.total_is)))
+
+  rwords_cut : a < total → rwords_of rs bound ≡ from_start (drop (length rs - suc a) rs)
+  rwords_cut lt = cond-true (ltb (alone (length rs) bound) (length rs)) _ _ (lt-ltb _ _ (omega (arith, stay, w.total_is))) ∙ ap (λ (k : ℕ). from_start (drop (length rs - suc k) rs)) stay
+
+  pub words_length : (len : ℕ) → length (words_of rs len bound) ≡ m
+  words_length len = ⊎_elim
+      (λ lt. ap length (words_cut len lt) ∙ length-to_end len (take (suc a) rs) ∙ length-take (suc a) rs ∙ omega (arith, w.is, w.total_is))
+      (λ le. ap length (words_whole len le) ∙ omega (arith, w.is, w.total_is, few))
+      (cases_lt a total)
+
+  pub rwords_length : length (rwords_of rs bound) ≡ m
+  rwords_length = ⊎_elim
+      (λ lt. ap length (rwords_cut lt) ∙ length-from_start (drop (length rs - suc a) rs) ∙ length-drop (length rs - suc a) rs ∙ omega (arith, w.is, w.total_is))
+      (λ le. ap length (rwords_whole le) ∙ omega (arith, w.is, w.total_is, few))
+      (cases_lt a total)
+
+  module _ (list list' : List Place) (n : ℕ) (room : Given m (length list) n) where
+    n_is : n ≡ min total (a + 1)
+    n_is = room.is ∙ w.is
+
+    module _ (len : ℕ) (f : Filled (take n rs) list list') where
+      came : Put (take n rs) n list list'
+      came = put (take n rs) n list list' (length-take n rs ∙ omega (arith, n_is, w.total_is)) f
+
+      to_len : a < total → Lists (Ok (words_of rs len bound)) list (set list' a (record { start = (get_or list' a none).start; end = len })) (Ok n)
+      to_len lt =
+          let d = none in
+          let last : Place = record { start = (get_or list' a d).start; end = len } in
+          let s : n ≡ suc a = omega (arith, n_is) in
+          let set_last : stretches (take (suc a) (set list' a last)) ≡ to_end len (stretches (take (suc a) list')) = set_end list' a len d (omega (arith, came.within)) in
+          lists (words_of rs len bound) list (set list' a last) n (room.is ∙ sym (words_length len)) (omega (arith, room.is, room.fits))
+          (ap (λ (k : ℕ). stretches (take k (set list' a last))) s ∙ set_last ∙ ap (λ (k : ℕ). to_end len (stretches (take k list'))) (sym s) ∙ ap (to_end len) (came.written ∙ ap (λ (k : ℕ). take k rs) s) ∙ sym (words_cut len lt))
+          (drop-set-lt n list' a last (omega arith) ∙ came.others)
+
+      pub words_put_cut : a < total → (end : ℕ) → end ≡ len → Lists (Ok (words_of rs len bound)) list (set list' a (record { start = (get_or list' a none).start; end = end })) (Ok n)
+      words_put_cut lt end is = subst (λ (k : ℕ). Lists (Ok (words_of rs len bound)) list (set list' a (record { start = (get_or list' a none).start; end = k })) (Ok n)) (sym is) (to_len lt)
+
+    module _ (f : Filled (take n (drop (total - n) rs)) list list') where
+      last_runs : take n (drop (total - n) rs) ≡ drop (length rs - n) rs
+      last_runs = ap (λ (t : ℕ). take n (drop (t - n) rs)) w.total_is ∙ take_all n (drop (length rs - n) rs) (omega (arith, length-drop (length rs - n) rs))
+
+      came_last : Put (drop (length rs - n) rs) n list list'
+      came_last = put (drop (length rs - n) rs) n list list' (length-drop (length rs - n) rs ∙ omega (arith, n_is, w.total_is)) (subst (λ (ps : List Span). Filled ps list list') last_runs f)
+
+      pub rwords_put : total ≤ a → Lists (Ok (rwords_of rs bound)) list list' (Ok n)
+      rwords_put le =
+          let z : length rs - n ≡ 0 = omega (arith, n_is, w.total_is) in
+          lists (rwords_of rs bound) list list' n (room.is ∙ sym rwords_length) (omega (arith, room.is, room.fits)) (came_last.written ∙ ap (λ (k : ℕ). drop k rs) z ∙ sym (rwords_whole le)) came_last.others
+
+      pub rwords_put_cut : a < total → Lists (Ok (rwords_of rs bound)) list (set list' 0 (record { start = 0; end = (get_or list' 0 none).end })) (Ok n)
+      rwords_put_cut lt =
+          let d = none in
+          let first : Place = record { start = 0; end = (get_or list' 0 d).end } in
+          let s : n ≡ suc a = omega (arith, n_is) in
+          let set_first : stretches (take (suc a) (set list' 0 first)) ≡ from_start (stretches (take (suc a) list')) = set_start list' a d (omega (arith, came_last.within)) in
+          lists (rwords_of rs bound) list (set list' 0 first) n (room.is ∙ sym rwords_length) (omega (arith, room.is, room.fits))
+          (ap (λ (k : ℕ). stretches (take k (set list' 0 first))) s ∙ set_first ∙ ap (λ (k : ℕ). from_start (stretches (take k list'))) (sym s) ∙ ap from_start (came_last.written ∙ ap (λ (k : ℕ). drop (length rs - k) rs) s) ∙ sym (rwords_cut lt))
+          (drop-set-lt n list' 0 first (omega arith) ∙ came_last.others)
+
+-- what was written into the front of a list was written into the list
+pub filled-front : (xs ys : List Span) (n : ℕ) (list part : List Place) → xs ≡ ys → n ≤ length list → length part ≡ length (take n list) → Filled (take (length (take n list)) xs) (take n list) part → Filled (take n ys) list (part ++ drop n list)
+filled-front xs ys n list part same fits l f =
+    let t : length (take n list) ≡ n = length-take n list ∙ omega arith in
+    let ps : List Span = take (length (take n list)) xs in
+    let few : length ps ≤ length part = omega (arith, length-take (length (take n list)) xs) in
+    let whole : Filled ps list (part ++ drop n list) = record {
+      written = ap stretches (take-append-le (length ps) part (drop n list) few) ∙ f.written;
+      others = drop-append-le (length ps) part (drop n list) few ∙ ap (λ (ys : List Place). ys ++ drop n list) f.others ∙ sym (drop-append-le (length ps) (take n list) (drop n list) (omega arith))
+          ∙ ap (drop (length ps)) (take-append-drop n list);
+    } in
+    subst (λ (qs : List Span). Filled qs list (part ++ drop n list)) (λ i. take (t i) (same i)) whole

@@ -1,0 +1,31 @@
+-- What a text is split into, at a separator or at whitespace. Assumes nothing.
+use Rattle.std.specs.Prelude.{ℕ, List, length, ℤ, Some, None, Ok, Option, Result}
+use Rattle.std.specs.List.{concat}
+use Rattle.anystr.specs.declared.place.Place.{Place}
+use Rattle.anystr.specs.declared.refusal.Refusal.{Refusal}
+use Rattle.searchers.specs.Marks.{Span}
+use Rattle.bytesinner.specs.splits.Separated.{split_of, rsplit_of, OfWritten, SplitFront, SplitBack, Restore, Cuttable}
+use Rattle.bytesinner.specs.words.Words.{runs, words_of, rwords_of, AllRuns}
+
+-- split: by the separator, or the words where there is none
+abbrev pub splits_of : List ℕ → Option (List ℕ) → ℤ → Result (List Span) (ℕ × ℕ)
+splits_of bytes (Some sep) maxsplit = split_of bytes sep maxsplit
+splits_of bytes None maxsplit = Ok (words_of (runs bytes) (length bytes) maxsplit)
+
+-- rsplit: the same from the end
+abbrev pub rsplits_of : List ℕ → Option (List ℕ) → ℤ → Result (List Span) (ℕ × ℕ)
+rsplits_of bytes (Some sep) maxsplit = rsplit_of bytes sep maxsplit
+rsplits_of bytes None maxsplit = Ok (rwords_of (runs bytes) maxsplit)
+
+-- The law of split. The places lie between the separators that the rule of the cuts from the front cuts, are joined
+-- to the text again, and can be cut out of it; without a separator the words are the text's runs.
+abbrev pub SplitLaw : List (List ℕ) → Option (List ℕ) → ℤ → List Place → Result ℕ Refusal → Type 0
+SplitLaw es (Some sep) maxsplit list' r =
+    OfWritten (SplitFront (concat es) sep maxsplit) list' r × OfWritten (Restore (concat es) sep) list' r × OfWritten (Cuttable es) list' r
+SplitLaw es None maxsplit list' r = AllRuns (concat es) (runs (concat es))
+
+-- the law of rsplit: the same with the rule of the cuts from the end
+abbrev pub RsplitLaw : List (List ℕ) → Option (List ℕ) → ℤ → List Place → Result ℕ Refusal → Type 0
+RsplitLaw es (Some sep) maxsplit list' r =
+    OfWritten (SplitBack (concat es) sep maxsplit) list' r × OfWritten (Restore (concat es) sep) list' r × OfWritten (Cuttable es) list' r
+RsplitLaw es None maxsplit list' r = AllRuns (concat es) (runs (concat es))

@@ -1,0 +1,59 @@
+-- The lines of a text, without and with their ends. Assumes nothing.
+use Rattle.std.specs.Prelude.{◌≡◌, ℕ, ◌<◌, ◌≤◌, Bool, cond, List, [], ◌∷◌, ◌++◌, length, negsuc, ◌≢◌, nat_lt, slice_index}
+use Rattle.anystr.specs.Places.{part}
+use Rattle.searchers.specs.Marks.{Marks, Span}
+use Rattle.searchers.specs.lineends.Lines.{line_end, LineEnd}
+use Rattle.cuts.specs.Cuts.{Sheet, size, State, all_marks, cuts, between, pieces_left}
+
+-- the pieces, without the last where it is empty
+abbrev pub filled : List Span → List Span
+filled [] = []
+filled (p ∷ []) = cond (nat_lt p.0 p.1) (p ∷ []) []
+filled (p ∷ q ∷ ps) = p ∷ filled (q ∷ ps)
+
+-- where these lines begin, or the length where there are none
+abbrev pub start_of : ℕ → List Span → ℕ
+start_of len [] = len
+start_of len (p ∷ ps) = p.0
+
+-- each line goes on to where the next begins, and the last to the end of the text
+abbrev pub kept : ℕ → List Span → List Span
+kept len [] = []
+kept len (p ∷ ps) = (p.0, start_of len ps) ∷ kept len ps
+
+-- the lines that these pieces make, with their ends or without
+abbrev pub lines_from : Bool → ℕ → List Span → List Span
+lines_from keepends len ps = cond keepends (kept len (filled ps)) (filled ps)
+
+-- the lines of a text of `len` bytes, where these marks end them
+abbrev pub lines_at : Marks → ℕ → Bool → List Span
+lines_at marks len keepends = lines_from keepends len (between 0 len (cuts (negsuc 0) 0 0 (all_marks marks len)))
+
+-- the lines of a text: the pieces between its line ends
+abbrev pub lines_of : List ℕ → Bool → List Span
+lines_of bytes keepends = lines_at (line_end bytes) (length bytes) keepends
+
+-- the lines that a cutter has left
+abbrev pub lines_left : Sheet → Bool → State → List Span
+lines_left sheet keepends s = lines_from keepends (size sheet) (pieces_left sheet s)
+
+-- no line feed or carriage return stands from a to e
+abbrev pub Bare : List ℕ → ℕ → ℕ → Type 0
+Bare bytes a e = (k : ℕ) → a ≤ k → k < e → (slice_index bytes k ≢ 10) × (slice_index bytes k ≢ 13)
+
+-- A text from p on, read line by line, with the lines without their ends and with them: bytes that are no line end
+-- and a line end after them, again and again; the last line may lack its end, and is then not empty.
+pub data Reads (bytes : List ℕ) : ℕ → List Span → List Span → Type 0 where
+  ended : {p : ℕ} → p ≡ length bytes → Reads bytes p [] []
+  line : {p a e : ℕ} {ls ks : List Span} → p ≤ a → Bare bytes p a → LineEnd bytes a e → Reads bytes e ls ks → Reads bytes p ((p, a) ∷ ls) ((p, e) ∷ ks)
+  last : {p : ℕ} → p < length bytes → Bare bytes p (length bytes) → Reads bytes p ((p, length bytes) ∷ []) ((p, length bytes) ∷ [])
+
+-- the bytes of stretches, one after another
+abbrev pub bytes_of : List ℕ → List Span → List ℕ
+bytes_of bytes [] = []
+bytes_of bytes (p ∷ ps) = part bytes p ++ bytes_of bytes ps
+
+-- the law of the lines: the text is read line by line, and the lines with their ends make up its bytes
+pub record LinesLaw (bytes : List ℕ) (without with-ends : List Span) : Type 0 where
+  pub reads : Reads bytes 0 without with-ends
+  pub whole : bytes_of bytes with-ends ≡ bytes

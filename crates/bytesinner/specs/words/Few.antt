@@ -1,0 +1,21 @@
+-- How many runs there can be. Assumes nothing.
+use Rattle.std.specs.Prelude.{ℕ, suc, ◌≤◌, List, [], ◌∷◌, length, drop, nat_lt}
+use Rattle.std.proofs.Common.{arith, length-drop, length-append}
+use Rattle.std.proofs.lemmas.Bool.{cond_both}
+use Rattle.anystr.specs.Limits.{most_bytes}
+use Rattle.searchers.specs.Marks.{Span}
+use Rattle.bytesinner.specs.words.Words.{space, run, runs_from}
+
+run_short : (a e : ℕ) → length (run a e) ≤ 1
+run_short a e = cond_both (nat_lt a e) ((a, e) ∷ []) [] (λ (ms : List Span). length ms ≤ 1) (λ _. omega arith) (λ _. omega arith)
+
+-- there is at most one run more than bytes
+runs-few : (from place : ℕ) (bs : List ℕ) → length (runs_from from place bs) ≤ suc (length bs)
+runs-few from place [] = omega (arith, run_short from place)
+runs-few from place (b ∷ bs) =
+    cond_both (space b) _ _ (λ (ms : List Span). length ms ≤ suc (suc (length bs)))
+    (λ _. omega (arith, length-append (run from place) (runs_from (suc place) (suc place) bs), run_short from place, runs-few (suc place) (suc place) bs))
+    (λ _. omega (arith, runs-few from (suc place) bs))
+
+pub left-few : (place : ℕ) (bytes : List ℕ) → length bytes ≤ most_bytes → length (runs_from place place (drop place bytes)) ≤ suc most_bytes
+left-few place bytes few = omega (arith, runs-few place place (drop place bytes), length-drop place bytes)

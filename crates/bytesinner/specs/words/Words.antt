@@ -1,0 +1,75 @@
+-- Words: the runs of a text between whitespace, and the lists that a bound makes of them. Assumes nothing.
+use Rattle.std.specs.Prelude.{◌≡◌, ℕ, suc, ◌-◌, ◌<◌, ◌≤◌, min, Bool, true, false, cond, List, [], ◌∷◌, ◌++◌, length, take, drop, ℤ, pos, negsuc, nat_lt, slice_index}
+use Rattle.std.specs.List.{prefix_len}
+use Rattle.std.specs.Bool.{beq}
+use Rattle.searchers.specs.Marks.{Span}
+use Rattle.searchers.specs.bytesets.Sets.{among}
+use Rattle.cuts.specs.Runs.{In}
+
+-- space, tab, line feed, form feed, carriage return and vertical tab
+abbrev pub whitespace : List ℕ
+whitespace = 32 ∷ 9 ∷ 10 ∷ 12 ∷ 13 ∷ 11 ∷ []
+
+-- whether a byte is whitespace
+abbrev pub space : ℕ → Bool
+space b = among whitespace b
+
+-- how many bytes at the front are whitespace, or, where `spaces` is false, are none
+abbrev pub stretch_len : List ℕ → Bool → ℕ
+stretch_len bytes spaces = prefix_len (λ b. beq spaces (space b)) bytes
+
+-- a stretch alone, or nothing where it is empty
+abbrev pub run : ℕ → ℕ → List Span
+run a e = cond (nat_lt a e) ((a, e) ∷ []) []
+
+-- the runs that end at `place` or after it, where these bytes stand from `place` on and no whitespace stands from `from` to it
+abbrev pub runs_from : ℕ → ℕ → List ℕ → List Span
+runs_from from place [] = run from place
+runs_from from place (b ∷ bs) = cond (space b) (run from place ++ runs_from (suc place) (suc place) bs) (runs_from from (suc place) bs)
+
+-- the runs of a text
+abbrev pub runs : List ℕ → List Span
+runs bytes = runs_from 0 0 bytes
+
+-- how many of the runs stay by themselves: as many as the bound, and all where they are not more; a negative bound is none
+abbrev pub alone : ℕ → ℤ → ℕ
+alone total (pos bound) = min total bound
+alone total (negsuc _) = total
+
+-- the last stretch goes on to `len`
+abbrev pub to_end : ℕ → List Span → List Span
+to_end len [] = []
+to_end len (r ∷ []) = (r.0, len) ∷ []
+to_end len (r ∷ s ∷ rs) = r ∷ to_end len (s ∷ rs)
+
+-- the first stretch begins at 0
+abbrev pub from_start : List Span → List Span
+from_start [] = []
+from_start (r ∷ rs) = (0, r.1) ∷ rs
+
+-- the runs; where more than the bound, the first of them and one more, which goes on to the end of the text
+abbrev pub words_of : List Span → ℕ → ℤ → List Span
+words_of rs len bound = cond (nat_lt (alone (length rs) bound) (length rs)) (to_end len (take (suc (alone (length rs) bound)) rs)) rs
+
+-- the runs; where more than the bound, the last of them and one more, which begins at the start of the text
+abbrev pub rwords_of : List Span → ℤ → List Span
+rwords_of rs bound = cond (nat_lt (alone (length rs) bound) (length rs)) (from_start (drop (length rs - suc (alone (length rs) bound)) rs)) rs
+
+-- a run: a longest stretch of one byte or more without whitespace
+pub record Run (bytes : List ℕ) (a e : ℕ) : Type 0 where
+  pub nonempty : a < e
+  pub within : e ≤ length bytes
+  pub bare : (k : ℕ) → a ≤ k → k < e → space (slice_index bytes k) ≡ false
+  pub before : 0 < a → space (slice_index bytes (a - 1)) ≡ true
+  pub after : e < length bytes → space (slice_index bytes e) ≡ true
+
+-- stretches that come in order from an offset on, each of which ends before the next begins
+abbrev pub InOrder : ℕ → List Span → Type 0
+InOrder from [] = Unit {0}
+InOrder from (r ∷ rs) = (from ≤ r.0) × InOrder (suc r.1) rs
+
+-- the law of the runs: these are the runs of the text, each of them once, in their order
+pub record AllRuns (bytes : List ℕ) (rs : List Span) : Type 0 where
+  pub each : (r : Span) → In r rs → Run bytes r.0 r.1
+  pub every : (a e : ℕ) → Run bytes a e → In (a, e) rs
+  pub order : InOrder 0 rs

@@ -1,0 +1,29 @@
+// Splitting a text at a separator from the front.
+ghost use Rattle.std.specs.List.{concat};
+ghost use Rattle.anystr.specs.Places.{Lists};
+ghost use Rattle.bytesinner.specs.splits.Separated.{split_of, OfWritten, SplitFront, Restore, Cuttable};
+
+use anystr::anystr::AnyStr;
+use anystr::place::Place;
+use anystr::refusal::Refusal;
+use cutters::cutter::Cutter;
+use cutters::pieces::fill::list;
+use searchers::substring::Substring;
+
+// Lists the places between the separators that are cut from the front, at most `maxsplit` of them; a negative
+// `maxsplit` is no bound. An empty separator is refused, and then a list with too few entries.
+pub fn split_str<S: AnyStr>(
+    text: &S,
+    sep: &S,
+    maxsplit: i64,
+    places: &mut [Place],
+) -> Result<usize, Refusal>
+    ensures list { Lists (split_of (concat (S.AnyStr.elements text.now)) (concat (S.AnyStr.elements sep.now)) maxsplit) places.old places.new result }
+    ensures rule { OfWritten (SplitFront (concat (S.AnyStr.elements text.now)) (concat (S.AnyStr.elements sep.now)) maxsplit) places.new result }
+    ensures restores { OfWritten (Restore (concat (S.AnyStr.elements text.now)) (concat (S.AnyStr.elements sep.now))) places.new result }
+    ensures cut { OfWritten (Cuttable (S.AnyStr.elements text.now)) places.new result }
+{
+    Substring::check(sep)?;
+    let cutter = Cutter::open(*text, Substring::new(*sep), maxsplit);
+    list(cutter.pieces(), places)
+}

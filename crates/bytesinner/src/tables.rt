@@ -1,0 +1,5 @@
+// Tables of 256 bytes: how they are made, and texts translated by them.
+
+mod identity;
+pub mod maketrans;
+pub mod translate;

@@ -1,0 +1,4 @@
+// Words: texts split at whitespace, from the front and from the end.
+
+mod runs;
+pub mod split;

@@ -1,0 +1,4 @@
+// Pieces of a text, one after another, and lists of them.
+
+pub mod fill;
+pub mod source;

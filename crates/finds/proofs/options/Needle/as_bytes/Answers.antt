@@ -1,6 +1,0 @@
-use Rattle.std.proofs.Common.{sym, ap}
-use Rattle.finds.specs.Asked.{needle_bytes}
-use Rattle.finds.proofs.options.Needle.as_bytes.Goals as goal
-
-pub returns-in-Byte : goal.returns-in-Byte
-returns-in-Byte c = sym (ap needle_bytes c.in-Byte.is)

@@ -1,8 +1,0 @@
-use Rattle.std.proofs.Common.{refl, ap, arith}
-use Rattle.replaces.proofs.Filling.{fills}
-use Rattle.replaces.proofs.Replacement.replace_empty.Goals as goal
-
-pub returns-then-free-needed : goal.returns-then-free-needed
-returns-then-free-needed g c =
-    let n = c.measure-needed.ensures in
-    fills _ _ _ _ _ _ _ _ refl (omega (arith, n)) (omega (arith, n, c.free.ensures), ap (λ k. (7, k)) n, refl, refl)

@@ -1,0 +1,4 @@
+// Sets of bytes, and the search for their bytes.
+
+pub mod asciiset;
+pub mod byteset;

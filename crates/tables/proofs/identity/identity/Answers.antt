@@ -1,5 +1,0 @@
-use Rattle.std.proofs.Common.{rules}
-use Rattle.tables.proofs.identity.identity.Goals as goal
-
-pub returns : goal.returns
-returns c b h = let t = (c.from_fn.ensures.items.at b 0 h).2 in search rules
