@@ -1,3 +1,4 @@
 pub mod Begins
+pub mod Boundaries
 pub mod Mapped
 pub mod Parts

@@ -1,5 +1,5 @@
 -- A text's meaning: the list of its elements' encodings. Assumes nothing.
-use Rattle.std.specs.Prelude.{◌≡◌, ℕ, ◌-◌, ◌<◌, ◌≤◌, cond, List, [], ◌∷◌, length, take, drop, Some, None, Option, ◌==◌, nat_le}
+use Rattle.std.specs.Prelude.{◌≡◌, ℕ, ◌-◌, ◌<◌, ◌≤◌, Bool, true, cond, if◌then◌else◌, ◌&&◌, List, [], ◌∷◌, length, take, drop, Some, None, Option, ◌==◌, nat_le}
 use Rattle.std.specs.List.{concat}
 
 -- the bytes before the element of index k
@@ -9,6 +9,11 @@ offset es k = length (concat (take k es))
 -- an offset at which an element begins, or the length
 abbrev pub Boundary : List (List ℕ) → ℕ → Type 0
 Boundary es p = (k : ℕ) × (offset es k ≡ p)
+
+-- the same as a test
+abbrev pub on_boundary : List (List ℕ) → ℕ → Bool
+on_boundary [] p = p == 0
+on_boundary (e ∷ es) p = if p == 0 then true else (nat_le (length e) p && on_boundary es (p - length e))
 
 -- the stretch from a to b can be cut out
 pub record Cut (es : List (List ℕ)) (a b : ℕ) : Type 0 where

@@ -2,7 +2,7 @@
 use Rattle.std.proofs.Common.{◌≡◌, ℕ, zero, suc, ◌+◌, ◌<◌, ◌≤◌, Bool, true, false, cond, leb, List, [], ◌∷◌, ◌++◌, ℤ, Some, refl, ap, ◌∙◌, ⊎_elim, arith}
 use Rattle.std.proofs.lemmas.Bool.{cond-false, lt-leb, and_left, and_right, cases_lt}
 use Rattle.searchers.specs.Marks.{Marks, Span, Lawful, Least, NoneFrom}
-use Rattle.cuts.specs.Cuts.{Sheet, size, cut_from, begun, listed, fewer, cuts, at, after_cut, next_of}
+use Rattle.cuts.specs.Cuts.{Opening, size, cut_from, begun, listed, fewer, cuts, at, after_cut, next_of}
 use Rattle.cuts.proofs.Greedy.{Few, greedy_one}
 use Rattle.cuts.proofs.Listed.{greedy_cuts}
 
@@ -26,26 +26,26 @@ module _ (marks : Marks) (bound : ℤ) (made place : ℕ) where
   listed-past a zero le = refl
   listed-past a (suc n) le = begun-past a (suc a) (suc n) (listed marks (suc a) n) (omega arith) ∙ listed-past (suc a) n (omega arith)
 
-module _ (sheet : Sheet) (law : Lawful sheet.marks (size sheet)) (made place : ℕ) where
-  pub cut-found : (a e : ℕ) → Few sheet.bound made → Least sheet.marks place a e → cut_from sheet made place ≡ (a, e) ∷ cut_from sheet (suc made) e
+module _ (on : Opening) (law : Lawful on.marks (size on)) (made place : ℕ) where
+  pub cut-found : (a e : ℕ) → Few on.bound made → Least on.marks place a e → cut_from on made place ≡ (a, e) ∷ cut_from on (suc made) e
   cut-found a e few least =
       let long = law.nonempty a e least.is in
       let inside = law.within a e least.is in
       let from = least.after in
-      greedy_one sheet.bound law made place _ _ (greedy_cuts sheet.bound law made place (omega arith)) (least, few, greedy_cuts sheet.bound law (suc made) e inside)
+      greedy_one on.bound law made place _ _ (greedy_cuts on.bound law made place (omega arith)) (least, few, greedy_cuts on.bound law (suc made) e inside)
 
-  pub none_found : NoneFrom sheet.marks place → cut_from sheet made place ≡ []
+  pub none_found : NoneFrom on.marks place → cut_from on made place ≡ []
   none_found none = ⊎_elim
-      (λ past. listed-past sheet.marks sheet.bound made place 0 (size sheet) (omega arith))
-      (λ within. greedy_one sheet.bound law made place _ [] (greedy_cuts sheet.bound law made place within) (within, λ few b d is from lt. none b d from is))
-      (cases_lt (size sheet) place)
+      (λ past. listed-past on.marks on.bound made place 0 (size on) (omega arith))
+      (λ within. greedy_one on.bound law made place _ [] (greedy_cuts on.bound law made place within) (within, λ few b d is from lt. none b d from is))
+      (cases_lt (size on) place)
 
-  pub used_up : fewer made sheet.bound ≡ false → cut_from sheet made place ≡ []
-  used_up used = none-cut sheet.bound made place _ used
+  pub used_up : fewer made on.bound ≡ false → cut_from on made place ≡ []
+  used_up used = none-cut on.bound made place _ used
 
   -- what next gives where a mark is cut, and where none is
-  pub next-cut : (a e : ℕ) → Few sheet.bound made → Least sheet.marks place a e → next_of sheet (at place made false) ≡ (Some (place, a), at e (suc made) false)
-  next-cut a e few least = ap (after_cut (size sheet) (at place made false)) (cut-found a e few least)
+  pub next-cut : (a e : ℕ) → Few on.bound made → Least on.marks place a e → next_of on (at place made false) ≡ (Some (place, a), at e (suc made) false)
+  next-cut a e few least = ap (after_cut (size on) (at place made false)) (cut-found a e few least)
 
-  pub next-rest : cut_from sheet made place ≡ [] → next_of sheet (at place made false) ≡ (Some (place, size sheet), at (size sheet) made true)
-  next-rest none = ap (after_cut (size sheet) (at place made false)) none
+  pub next-rest : cut_from on made place ≡ [] → next_of on (at place made false) ≡ (Some (place, size on), at (size on) made true)
+  next-rest none = ap (after_cut (size on) (at place made false)) none

@@ -8,3 +8,6 @@ pub mod Sizes
 pub mod Mirror
 pub mod Splits
 pub mod Back
+pub mod Yielding
+pub mod Skips
+pub mod Pours

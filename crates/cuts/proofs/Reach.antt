@@ -1,19 +1,19 @@
 -- A cutter's state with the pieces that are gone, and how one piece more, or many, change it. Assumes nothing.
 use Rattle.std.proofs.Common.{◌≡◌, ℕ, zero, suc, ◌+◌, ◌≤◌, true, false, List, [], ◌∷◌, ◌++◌, length, Some, None, Option, sym, refl, ap, ◌∙◌, subst, append-nil, arith, length-append}
 use Rattle.searchers.specs.Marks.{Span, Lawful}
-use Rattle.cuts.specs.Cuts.{Sheet, size, cut_from, State, at, opened, between, pieces_left, next_of, after_cut, nexts}
+use Rattle.cuts.specs.Cuts.{Opening, size, cut_from, State, at, at_opening, between, pieces_left, next_of, after_cut, nexts}
 use Rattle.cuts.specs.Runs.{Cut, marks_of, Lie, count, piece}
 use Rattle.cuts.proofs.Greedy.{lie-within}
 use Rattle.cuts.proofs.Listed.{cuts-after}
 
 -- the marks that are cut in the end
-abbrev pub whole_of : Sheet → List Span
-whole_of sheet = cut_from sheet 0 0
+abbrev pub whole_of : Opening → List Span
+whole_of on = cut_from on 0 0
 
 -- a state, with the pieces that are gone
-pub data Core (sheet : Sheet) : State → List Cut → Option Span → Type 0 where
-  ahead : {p m : ℕ} {row : List Cut} → Lie 0 row None p (size sheet) → whole_of sheet ≡ marks_of row ++ cut_from sheet m p → Core sheet (at p m false) row None
-  shut : {m : ℕ} {row : List Cut} {end : Span} → Lie 0 row (Some end) (size sheet) (size sheet) → whole_of sheet ≡ marks_of row → Core sheet (at (size sheet) m true) row (Some end)
+pub data Core (on : Opening) : State → List Cut → Option Span → Type 0 where
+  ahead : {p m : ℕ} {row : List Cut} → Lie 0 row None p (size on) → whole_of on ≡ marks_of row ++ cut_from on m p → Core on (at p m false) row None
+  shut : {m : ℕ} {row : List Cut} {end : Span} → Lie 0 row (Some end) (size on) (size on) → whole_of on ≡ marks_of row → Core on (at (size on) m true) row (Some end)
 
 -- each piece that stands in one row stands at the same place in the other
 abbrev pub Keeps : List Cut → Option Span → List Cut → Option Span → Type 0
@@ -61,22 +61,22 @@ lie-snoc q p len [] c l from long within = (sym l.0, omega arith, refl, long, (r
 lie-snoc q p len (x ∷ xs) c l from long within = (l.0, l.1, l.2, l.3, lie-snoc x.1.1 p len xs c l.4 from long within)
 
 -- one piece more
-pub record One (sheet : Sheet) (p m : ℕ) (row : List Cut) : Type 0 where
+pub record One (on : Opening) (p m : ℕ) (row : List Cut) : Type 0 where
   pub t : State
   pub row' : List Cut
   pub last' : Option Span
   pub gave : Span
-  pub is : next_of sheet (at p m false) ≡ (Some gave, t)
-  pub core : Core sheet t row' last'
+  pub is : next_of on (at p m false) ≡ (Some gave, t)
+  pub core : Core on t row' last'
   pub more : count row' last' ≡ suc (length row)
   pub keeps : Keeps row None row' last'
   pub here : piece row' last' (length row) ≡ Some gave
 
 -- n pieces more
-pub record Many (sheet : Sheet) (n : ℕ) (s : State) (row : List Cut) (last : Option Span) : Type 0 where
+pub record Many (on : Opening) (n : ℕ) (s : State) (row : List Cut) (last : Option Span) : Type 0 where
   pub row' : List Cut
   pub last' : Option Span
-  pub core : Core sheet (nexts sheet n s) row' last'
+  pub core : Core on (nexts on n s) row' last'
   pub more : count row' last' ≡ count row last + n
   pub keeps : Keeps row last row' last'
 
@@ -87,43 +87,43 @@ left-ahead whole row ms w = omega (arith, ap length w ∙ length-append (marks_o
 pub left-shut : (whole : List Span) (row : List Cut) → whole ≡ marks_of row → length row ≡ length whole
 left-shut whole row w = omega (arith, ap length w, length-marks row)
 
-pub left : {sheet : Sheet} {s : State} {row : List Cut} {last : Option Span}
-    → Core sheet s row last → count row last + length (pieces_left sheet s) ≡ suc (length (whole_of sheet))
-left {sheet} {row = row} (ahead {p = p} {m = m} l w) = omega (arith, length-between p (size sheet) (cut_from sheet m p), left-ahead _ row _ w)
+pub left : {on : Opening} {s : State} {row : List Cut} {last : Option Span}
+    → Core on s row last → count row last + length (pieces_left on s) ≡ suc (length (whole_of on))
+left {on} {row = row} (ahead {p = p} {m = m} l w) = omega (arith, length-between p (size on) (cut_from on m p), left-ahead _ row _ w)
 left {row = row} (shut l w) = omega (arith, left-shut _ row w)
 
-module _ (sheet : Sheet) (law : Lawful sheet.marks (size sheet)) where
-  one_by : (p m : ℕ) (row : List Cut) (ms : List Span) → cut_from sheet m p ≡ ms → Lie 0 row None p (size sheet) → whole_of sheet ≡ marks_of row ++ cut_from sheet m p → One sheet p m row
+module _ (on : Opening) (law : Lawful on.marks (size on)) where
+  one_by : (p m : ℕ) (row : List Cut) (ms : List Span) → cut_from on m p ≡ ms → Lie 0 row None p (size on) → whole_of on ≡ marks_of row ++ cut_from on m p → One on p m row
   one_by p m row [] e l w = record {
-    t = at (size sheet) m true;
+    t = at (size on) m true;
     row' = row;
-    last' = Some (p, (size sheet));
-    gave = (p, (size sheet));
-    is = ap (after_cut (size sheet) (at p m false)) e;
-    core = shut (lie-last 0 p (size sheet) row l) (w ∙ ap (λ (ms : List Span). marks_of row ++ ms) e ∙ append-nil (marks_of row));
+    last' = Some (p, (size on));
+    gave = (p, (size on));
+    is = ap (after_cut (size on) (at p m false)) e;
+    core = shut (lie-last 0 p (size on) row l) (w ∙ ap (λ (ms : List Span). marks_of row ++ ms) e ∙ append-nil (marks_of row));
     more = refl;
-    keeps = keeps-last row (p, (size sheet));
-    here = here-last row (p, (size sheet));
+    keeps = keeps-last row (p, (size on));
+    here = here-last row (p, (size on));
   }
   one_by p m row (c ∷ cs) e l w =
-      let a = cuts-after sheet.bound law m p c cs (lie-within (size sheet) 0 row p l) e in
+      let a = cuts-after on.bound law m p c cs (lie-within (size on) 0 row p l) e in
       let x : Cut = ((p, c.0), c) in
       record {
         t = at c.1 (suc m) false;
         row' = row ++ (x ∷ []);
         last' = None;
         gave = (p, c.0);
-        is = ap (after_cut (size sheet) (at p m false)) e;
-        core = ahead (lie-snoc 0 p (size sheet) row c l a.1 a.2 a.0) (w ∙ ap (λ (ms : List Span). marks_of row ++ ms) (e ∙ ap {B = List Span} (λ r. c ∷ r) (sym a.3)) ∙ sym (marks-snoc row x _));
+        is = ap (after_cut (size on) (at p m false)) e;
+        core = ahead (lie-snoc 0 p (size on) row c l a.1 a.2 a.0) (w ∙ ap (λ (ms : List Span). marks_of row ++ ms) (e ∙ ap {B = List Span} (λ r. c ∷ r) (sym a.3)) ∙ sym (marks-snoc row x _));
         more = length-append row (x ∷ []) ∙ omega arith;
         keeps = keeps-snoc row x;
         here = here_snoc row x;
       }
 
-  pub one : {p m : ℕ} {row : List Cut} → Lie 0 row None p (size sheet) → whole_of sheet ≡ marks_of row ++ cut_from sheet m p → One sheet p m row
-  one {p} {m} {row} l w = one_by p m row (cut_from sheet m p) refl l w
+  pub one : {p m : ℕ} {row : List Cut} → Lie 0 row None p (size on) → whole_of on ≡ marks_of row ++ cut_from on m p → One on p m row
+  one {p} {m} {row} l w = one_by p m row (cut_from on m p) refl l w
 
-  pub many : (n : ℕ) {s : State} {row : List Cut} {last : Option Span} → Core sheet s row last → count row last + n ≤ suc (length (whole_of sheet)) → Many sheet n s row last
+  pub many : (n : ℕ) {s : State} {row : List Cut} {last : Option Span} → Core on s row last → count row last + n ≤ suc (length (whole_of on)) → Many on n s row last
   many zero {row = row} {last = last} k le = record { row' = row; last' = last; core = k; more = omega arith; keeps = λ n p h. h }
   many (suc n) (ahead l w) le =
       let o = one l w in
@@ -131,30 +131,30 @@ module _ (sheet : Sheet) (law : Lawful sheet.marks (size sheet)) where
       record {
         row' = r.row';
         last' = r.last';
-        core = subst (λ (u : Option Span × State). Core sheet (nexts sheet n u.1) r.row' r.last') (sym o.is) r.core;
+        core = subst (λ (u : Option Span × State). Core on (nexts on n u.1) r.row' r.last') (sym o.is) r.core;
         more = omega (arith, o.more, r.more);
         keeps = λ i q h. r.keeps i q (o.keeps i q h);
       }
   many (suc n) {row = row} (shut l w) le = absurd (omega (arith, left-shut _ row w))
 
-  pub begins : Core sheet opened [] None
+  pub begins : Core on at_opening [] None
   begins = ahead (refl, omega arith) refl
 
   -- where all the pieces are gone, the cutter is spent
-  ends : {s : State} {row : List Cut} {last : Option Span} → Core sheet s row last → count row last ≡ suc (length (whole_of sheet))
-      → (all : List Cut) × (tail : Span) × (whole_of sheet ≡ marks_of all) × Lie 0 all (Some tail) (size sheet) (size sheet)
+  ends : {s : State} {row : List Cut} {last : Option Span} → Core on s row last → count row last ≡ suc (length (whole_of on))
+      → (all : List Cut) × (tail : Span) × (whole_of on ≡ marks_of all) × Lie 0 all (Some tail) (size on) (size on)
   ends {row = row} (ahead l w) n = absurd (omega (arith, left-ahead _ row _ w))
   ends {row = row} (shut {end = tail} l w) n = (row, tail, w, l)
 
-  pub to_the_end : (all : List Cut) × (tail : Span) × (whole_of sheet ≡ marks_of all) × Lie 0 all (Some tail) (size sheet) (size sheet)
-  to_the_end = let r = many (suc (length (whole_of sheet))) begins (omega arith) in ends r.core (omega (arith, r.more))
+  pub to_the_end : (all : List Cut) × (tail : Span) × (whole_of on ≡ marks_of all) × Lie 0 all (Some tail) (size on) (size on)
+  to_the_end = let r = many (suc (length (whole_of on))) begins (omega arith) in ends r.core (omega (arith, r.more))
 
   -- to pour is to go on to the end
-  pub pour-ends : (p m : ℕ) (ms : List Span) → p ≤ (size sheet) → cut_from sheet m p ≡ ms → nexts sheet (suc (length ms)) (at p m false) ≡ at (size sheet) (m + length ms) true
+  pub pour-ends : (p m : ℕ) (ms : List Span) → p ≤ (size on) → cut_from on m p ≡ ms → nexts on (suc (length ms)) (at p m false) ≡ at (size on) (m + length ms) true
   pour-ends p m [] within e =
       let z : m ≡ m + 0 = omega arith in
-      ap (λ (ms : List Span). (after_cut (size sheet) (at p m false) ms).1) e ∙ (λ i. at (size sheet) (z i) true)
+      ap (λ (ms : List Span). (after_cut (size on) (at p m false) ms).1) e ∙ (λ i. at (size on) (z i) true)
   pour-ends p m (c ∷ cs) within e =
-      let a = cuts-after sheet.bound law m p c cs within e in
+      let a = cuts-after on.bound law m p c cs within e in
       let z : suc m + length cs ≡ m + suc (length cs) = omega arith in
-      ap (λ (ms : List Span). nexts sheet (suc (length cs)) (after_cut (size sheet) (at p m false) ms).1) e ∙ pour-ends c.1 (suc m) cs a.0 a.3 ∙ (λ i. at (size sheet) (z i) true)
+      ap (λ (ms : List Span). nexts on (suc (length cs)) (after_cut (size on) (at p m false) ms).1) e ∙ pour-ends c.1 (suc m) cs a.0 a.3 ∙ (λ i. at (size on) (z i) true)

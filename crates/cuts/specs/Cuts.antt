@@ -1,5 +1,7 @@
 -- What a cutter's calls give, as functions that compute. Assumes nothing.
-use Rattle.std.specs.Prelude.{ℕ, zero, suc, ◌-◌, Bool, true, false, cond, ◌&&◌, List, [], ◌∷◌, ◌++◌, length, take, drop, ℤ, pos, negsuc, Some, None, Option, nat_le, nat_lt}
+use Rattle.std.specs.Prelude.{ℕ, zero, suc, ◌+◌, ◌-◌, Bool, true, false, cond, if◌then◌else◌, ◌&&◌, List, [], ◌∷◌, ◌++◌, length, take, drop, ℤ, pos, negsuc, Some, None, Ok, Err, Option, Result, nat_le, nat_lt}
+use Rattle.anystr.specs.declared.refusal.Refusal.TheVariants.{Spent, TooFew}
+use Rattle.anystr.specs.Refusals.{code}
 use Rattle.searchers.specs.Marks.{Marks, Span}
 
 -- the mark that begins at `a`, if one of the `n` ends from `e` on makes one
@@ -36,8 +38,8 @@ abbrev pub poured : List ℕ → List ℕ → ℕ → List Span → List ℕ
 poured bytes to place [] = drop place bytes
 poured bytes to place (m ∷ ms) = take (m.0 - place) (drop place bytes) ++ (to ++ poured bytes to m.1 ms)
 
--- what a cutter is opened on: the marks in the text, its bytes, and the bound of the cuts
-pub record Sheet : Type 0 where
+-- what a cutter was opened on: the marks in the text, its bytes, and the bound of the cuts
+pub record Opening : Type 0 where
   pub marks : Marks
   pub bytes : List ℕ
   pub bound : ℤ
@@ -52,24 +54,24 @@ abbrev pub at : ℕ → ℕ → Bool → State
 at p m s = record { place = p; made = m; spent = s }
 
 -- the state at opening
-abbrev pub opened : State
-opened = at 0 0 false
+abbrev pub at_opening : State
+at_opening = at 0 0 false
 
 -- the number of bytes
-abbrev pub size : Sheet → ℕ
-size sheet = length sheet.bytes
+abbrev pub size : Opening → ℕ
+size on = length on.bytes
 
 -- the marks that are cut from `place` on, after `made` cuts
-abbrev pub cut_from : Sheet → ℕ → ℕ → List Span
-cut_from sheet made place = cuts sheet.bound made place (all_marks sheet.marks (size sheet))
+abbrev pub cut_from : Opening → ℕ → ℕ → List Span
+cut_from on made place = cuts on.bound made place (all_marks on.marks (size on))
 
 -- the marks that are still to be cut
-abbrev pub to_cut : Sheet → State → List Span
-to_cut sheet s = cond s.spent [] (cut_from sheet s.made s.place)
+abbrev pub to_cut : Opening → State → List Span
+to_cut on s = cond s.spent [] (cut_from on s.made s.place)
 
 -- the pieces that are left
-abbrev pub pieces_left : Sheet → State → List Span
-pieces_left sheet s = cond s.spent [] (between s.place (size sheet) (to_cut sheet s))
+abbrev pub pieces_left : Opening → State → List Span
+pieces_left on s = cond s.spent [] (between s.place (size on) (to_cut on s))
 
 -- the next piece, where these marks are still to be cut, and the state after it
 abbrev pub after_cut : ℕ → State → List Span → Option Span × State
@@ -77,10 +79,32 @@ after_cut len s [] = (Some (s.place, len), at len s.made true)
 after_cut len s (m ∷ ms) = (Some (s.place, m.0), at m.1 (suc s.made) false)
 
 -- next: what it gives, and the state after it
-abbrev pub next_of : Sheet → State → Option Span × State
-next_of sheet s = cond s.spent (None, s) (after_cut (size sheet) s (to_cut sheet s))
+abbrev pub next_of : Opening → State → Option Span × State
+next_of on s = cond s.spent (None, s) (after_cut (size on) s (to_cut on s))
 
 -- the state after n nexts
-abbrev pub nexts : Sheet → ℕ → State → State
-nexts sheet zero s = s
-nexts sheet (suc n) s = nexts sheet n (next_of sheet s).1
+abbrev pub nexts : Opening → ℕ → State → State
+nexts on zero s = s
+nexts on (suc n) s = nexts on n (next_of on s).1
+
+-- the state after a call: a refused one leaves it
+abbrev pub unless_refused : {X : Type 0} → Result X (ℕ × ℕ) → State → State → State
+unless_refused (Ok _) after s = after
+unless_refused (Err _) after s = s
+
+-- skip n: it passes where so many pieces are left, and is else refused with their number
+abbrev pub skip_of : Opening → ℕ → State → Result (Unit {0}) (ℕ × ℕ)
+skip_of on n s =
+    if nat_le n (length (pieces_left on s)) then Ok tt else Err (code (TooFew (length (pieces_left on s))))
+
+-- the bytes from the place on, with `to` in place of each mark that is still to be cut
+abbrev pub needed : Opening → List ℕ → State → List ℕ
+needed on to s = poured on.bytes to s.place (to_cut on s)
+
+-- pour: the bytes that it appends; on a spent cutter it is refused
+abbrev pub pour_of : Opening → List ℕ → State → Result (List ℕ) (ℕ × ℕ)
+pour_of on to s = if s.spent then Err (code Spent) else Ok (needed on to s)
+
+-- the state after a pour
+abbrev pub poured_out : Opening → State → State
+poured_out on s = at (size on) (s.made + length (to_cut on s)) true

@@ -1,7 +1,10 @@
 -- What holds of a cutter after every list of calls, in the words of marks, cuts and pieces. Assumes nothing.
-use Rattle.std.specs.Prelude.{◌≡◌, ℕ, zero, suc, ◌+◌, ◌-◌, ◌<◌, ◌≤◌, true, false, cond, T, ◌⊎◌, List, [], ◌∷◌, ◌++◌, length, ℤ, Some, None, Option, nat_lt}
+use Rattle.std.specs.Prelude.{◌≡◌, ℕ, zero, suc, ◌+◌, ◌-◌, ◌<◌, ◌≤◌, cond, if◌then◌else◌, T, ◌⊎◌, List, [], ◌∷◌, ◌++◌, length, ℤ, Some, None, Ok, Err, Option, Result, nat_le, nat_lt}
+use Rattle.anystr.specs.declared.refusal.Refusal.TheVariants.{Spent, TooFew}
+use Rattle.anystr.specs.Refusals.{code}
 use Rattle.searchers.specs.Marks.{Marks, Span}
-use Rattle.cuts.specs.Cuts.{Sheet, size, State, at, opened, fewer, poured, to_cut, pieces_left, next_of, nexts}
+use Rattle.trays.specs.Trays.{Contents, IsFilled}
+use Rattle.cuts.specs.Cuts.{Opening, size, State, at_opening, fewer, poured, next_of, nexts, unless_refused, skip_of, pour_of, poured_out}
 
 abbrev pub In : Span → List Span → Type 0
 In m [] = ⊥
@@ -55,50 +58,33 @@ piece (x ∷ xs) last (suc n) = piece xs last n
 -- a call, with its answer
 pub data Event : Type 0 where
   next : Option Span → Event
-  -- skip n; None where it was accepted, else the number that the refusal gives
-  skip : ℕ → Option ℕ → Event
+  skip : ℕ → Result (Unit {0}) (ℕ × ℕ) → Event
   rest : Span → Event
-  -- pour `to` into a tray that held bytes with a number of bytes free, and what it holds and has free after
-  pours : (to held : List ℕ) (free : ℕ) (held' : List ℕ) (free' : ℕ) → Event
-  -- the same, refused: None for a spent cutter, else the bytes that are needed
-  pour_refused : (to held : List ℕ) (free : ℕ) (held' : List ℕ) (free' : ℕ) → Option ℕ → Event
-
--- the bytes that a pour of `to` takes
-abbrev pub needed : Sheet → List ℕ → State → List ℕ
-needed sheet to s = poured sheet.bytes to s.place (to_cut sheet s)
-
--- the state after a pour
-abbrev pub poured_out : Sheet → State → State
-poured_out sheet s = at (size sheet) (s.made + length (to_cut sheet s)) true
+  -- pour `to` into a tray, which stands before the answer as it was and after the answer as it is then
+  pour : (to : List ℕ) → Contents → Result (Unit {0}) (ℕ × ℕ) → Contents → Event
 
 -- what each call's contract says of its answer and of the state after it
-abbrev pub Step : Sheet → State → Event → State → Type 0
-Step sheet s (next r) t = (r ≡ (next_of sheet s).0) × (t ≡ (next_of sheet s).1)
-Step sheet s (skip n None) t = (n ≤ length (pieces_left sheet s)) × (t ≡ nexts sheet n s)
-Step sheet s (skip n (Some k)) t = (length (pieces_left sheet s) < n) × (k ≡ length (pieces_left sheet s)) × (t ≡ s)
-Step sheet s (rest r) t = (r ≡ (s.place, size sheet)) × (t ≡ s)
-Step sheet s (pours to held free held' free') t =
-    (s.spent ≡ false) × (length (needed sheet to s) ≤ free) × (held' ≡ held ++ needed sheet to s) × (free' + length (needed sheet to s) ≡ free)
-    × (t ≡ poured_out sheet s)
-Step sheet s (pour_refused to held free held' free' None) t = (s.spent ≡ true) × (held' ≡ held) × (free' ≡ free) × (t ≡ s)
-Step sheet s (pour_refused to held free held' free' (Some n)) t =
-    (s.spent ≡ false) × (free < length (needed sheet to s)) × (n ≡ length (needed sheet to s)) × (held' ≡ held) × (free' ≡ free) × (t ≡ s)
+abbrev pub Step : Opening → State → Event → State → Type 0
+Step on s (next r) t = (r ≡ (next_of on s).0) × (t ≡ (next_of on s).1)
+Step on s (skip n r) t = (r ≡ skip_of on n s) × (t ≡ unless_refused r (nexts on n s) s)
+Step on s (rest r) t = (r ≡ (s.place, size on)) × (t ≡ s)
+Step on s (pour to tray r tray') t = IsFilled (pour_of on to s) tray tray' r × (t ≡ unless_refused r (poured_out on s) s)
 
 -- a list of calls, the latest first, that leads from one state to another
-pub data Run (sheet : Sheet) : State → List Event → State → Type 0 where
-  none : {s : State} → Run sheet s [] s
-  more : {s t u : State} {e : Event} {es : List Event} → Run sheet s es t → Step sheet t e u → Run sheet s (e ∷ es) u
+pub data Run (on : Opening) : State → List Event → State → Type 0 where
+  none : {s : State} → Run on s [] s
+  more : {s t u : State} {e : Event} {es : List Event} → Run on s es t → Step on t e u → Run on s (e ∷ es) u
 
 -- the pieces given, skipped or poured by a list of calls, the latest call first, of a text with `total` pieces
 abbrev pub done : ℕ → List Event → ℕ
 done total [] = 0
 done total (next None ∷ es) = done total es
 done total (next (Some _) ∷ es) = suc (done total es)
-done total (skip n None ∷ es) = done total es + n
-done total (skip n (Some _) ∷ es) = done total es
+done total (skip n (Ok _) ∷ es) = done total es + n
+done total (skip n (Err _) ∷ es) = done total es
 done total (rest _ ∷ es) = done total es
-done total (pours _ _ _ _ _ ∷ es) = total
-done total (pour_refused _ _ _ _ _ _ ∷ es) = done total es
+done total (pour _ _ (Ok _) _ ∷ es) = total
+done total (pour _ _ (Err _) _ ∷ es) = done total es
 
 -- each next that gave a piece gave the one that stands there
 abbrev pub Given : ℕ → List Event → List Cut → Option Span → Type 0
@@ -107,29 +93,26 @@ Given total (next None ∷ es) row last = Given total es row last
 Given total (next (Some p) ∷ es) row last = (piece row last (done total es) ≡ Some p) × Given total es row last
 Given total (skip _ _ ∷ es) row last = Given total es row last
 Given total (rest _ ∷ es) row last = Given total es row last
-Given total (pours _ _ _ _ _ ∷ es) row last = Given total es row last
-Given total (pour_refused _ _ _ _ _ _ ∷ es) row last = Given total es row last
+Given total (pour _ _ _ _ ∷ es) row last = Given total es row last
 
--- what one more call answers, where `gone` of `total` pieces are gone, the rest begins at `from`, and `still` is still to be cut
+-- What one more call answers, where `gone` of `total` pieces are gone, the rest begins at `from`, and `still` is still
+-- to be cut. Of a pour that is what its tray gains or why it is refused; what is short of room is said of every tray.
 abbrev pub Answers : List ℕ → ℕ → ℕ → ℕ → List Span → Event → Type 0
 Answers bytes total gone from still (next None) = total ≤ gone
 Answers bytes total gone from still (next (Some _)) = gone < total
-Answers bytes total gone from still (skip n None) = n ≤ total - gone
-Answers bytes total gone from still (skip n (Some k)) = (total - gone < n) × (k ≡ total - gone)
+Answers bytes total gone from still (skip n r) =
+    r ≡ (if nat_le n (total - gone) then Ok tt else Err (code (TooFew (total - gone))))
 Answers bytes total gone from still (rest r) = r ≡ (from, length bytes)
-Answers bytes total gone from still (pours to held free held' free') =
-    (gone < total) × (held' ≡ held ++ poured bytes to from still) × (free' + length (poured bytes to from still) ≡ free)
-Answers bytes total gone from still (pour_refused to held free held' free' None) = (total ≤ gone) × (held' ≡ held) × (free' ≡ free)
-Answers bytes total gone from still (pour_refused to held free held' free' (Some n)) =
-    (gone < total) × (free < length (poured bytes to from still)) × (n ≡ length (poured bytes to from still)) × (held' ≡ held) × (free' ≡ free)
+Answers bytes total gone from still (pour to tray r tray') =
+    IsFilled (if nat_lt gone total then Ok (poured bytes to from still) else Err (code Spent)) tray tray' r
 
 -- what holds after a list of calls
-pub record After (sheet : Sheet) (es : List Event) (s : State) : Type 0 where
+pub record After (on : Opening) (es : List Event) (s : State) : Type 0 where
   -- the marks that the rule cuts to the end of the text
   pub whole : List Span
-  pub whole_rule : CutRule sheet.marks sheet.bound (size sheet) whole
+  pub whole_rule : CutRule on.marks on.bound (size on) whole
   -- in the order in which they stand, each once
-  pub whole_lies : (all : List Cut) × (tail : Span) × (whole ≡ marks_of all) × Lie 0 all (Some tail) (size sheet) (size sheet)
+  pub whole_lies : (all : List Cut) × (tail : Span) × (whole ≡ marks_of all) × Lie 0 all (Some tail) (size on) (size on)
   -- the pieces that are gone, each with the mark that was cut after it; and the last, which has none
   pub row : List Cut
   pub last : Option Span
@@ -138,14 +121,14 @@ pub record After (sheet : Sheet) (es : List Event) (s : State) : Type 0 where
   pub so_far : whole ≡ marks_of row ++ still
   pub counted : count row last ≡ done (suc (length whole)) es
   pub given : Given (suc (length whole)) es row last
-  pub end_to_end : Lie 0 row last s.place (size sheet)
-  pub rule : CutRule sheet.marks sheet.bound s.place (marks_of row)
+  pub end_to_end : Lie 0 row last s.place (size on)
+  pub rule : CutRule on.marks on.bound s.place (marks_of row)
   -- no other pieces, as many, keep the rule
-  pub no_other : (row' : List Cut) (last' : Option Span) (rest' : ℕ) → Lie 0 row' last' rest' (size sheet) → CutRule sheet.marks sheet.bound rest' (marks_of row')
+  pub no_other : (row' : List Cut) (last' : Option Span) (rest' : ℕ) → Lie 0 row' last' rest' (size on) → CutRule on.marks on.bound rest' (marks_of row')
       → count row' last' ≡ count row last → (row' ≡ row) × (last' ≡ last) × (rest' ≡ s.place)
   -- what one more call answers
-  pub then : (e : Event) (t : State) → Step sheet s e t → Answers sheet.bytes (suc (length whole)) (count row last) s.place still e
+  pub one_more : (e : Event) (t : State) → Step on s e t → Answers on.bytes (suc (length whole)) (count row last) s.place still e
 
 -- the law of a cutter: what holds after every list of calls since it was opened
-abbrev pub RunsLaw : Sheet → Type 0
-RunsLaw sheet = (es : List Event) (s : State) → Run sheet opened es s → After sheet es s
+abbrev pub RunsLaw : Opening → Type 0
+RunsLaw on = (es : List Event) (s : State) → Run on at_opening es s → After on es s

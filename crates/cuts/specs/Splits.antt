@@ -1,7 +1,7 @@
 -- What a text is split into at marks, from the front and from the end. Assumes nothing.
 use Rattle.std.specs.Prelude.{◌≡◌, ℕ, ◌+◌, ◌-◌, ◌<◌, ◌≤◌, cond, ◌&&◌, T, List, [], ◌∷◌, map, reverse, ℤ, nat_le, nat_lt}
 use Rattle.searchers.specs.Marks.{Marks, Span}
-use Rattle.cuts.specs.Cuts.{all_marks, cuts, between, fewer, Sheet, size, State, pieces_left}
+use Rattle.cuts.specs.Cuts.{all_marks, cuts, between, fewer, Opening, size, State, pieces_left}
 use Rattle.cuts.specs.Runs.{In, Overlap}
 
 -- the pieces of a text of `len` bytes, cut at marks from the front while fewer cuts are made than the bound
@@ -24,13 +24,13 @@ turned len ms = reverse (map (flip len) ms)
 abbrev pub rpieces_of : Marks → ℕ → ℤ → List Span
 rpieces_of marks len bound = turned len (pieces_of (mirror marks len) len bound)
 
--- a sheet as it is seen from the end of its text; of its bytes only the number counts
-abbrev pub from_end : Sheet → Sheet
-from_end sheet = record { marks = mirror sheet.marks (size sheet); bytes = sheet.bytes; bound = sheet.bound }
+-- what a cutter was opened on, as it is seen from the end of its text; of its bytes only the number counts
+abbrev pub from_end : Opening → Opening
+from_end on = record { marks = mirror on.marks (size on); bytes = on.bytes; bound = on.bound }
 
 -- the pieces that are left to a cutter from the end, whose state is seen from the end, in the order in which it gives them
-abbrev pub left_back : Sheet → State → List Span
-left_back sheet s = map (flip (size sheet)) (pieces_left (from_end sheet) s)
+abbrev pub left_back : Opening → State → List Span
+left_back on s = map (flip (size on)) (pieces_left (from_end on) s)
 
 -- no later cut overlaps the mark
 abbrev pub FreeBack : List Span → Span → Type 0

@@ -1,47 +1,39 @@
 -- A tray while bytes are poured into it.
-use Rattle.std.proofs.Common.{◌≡◌, ℕ, ◌+◌, ◌≤◌, Bool, true, false, cond, List, [], ◌++◌, length, drop, ap, ◌∙◌, append_assoc, arith, length-append, length-drop}
-use Rattle.std.proofs.lemmas.List.{drop-drop}
+use Rattle.std.proofs.Common.{◌≡◌, ℕ, ◌≤◌, Bool, true, false, cond, List, [], ◌++◌, length, drop, ap, ◌∙◌, arith, length-append, length-drop}
+use Rattle.trays.specs.Trays.{Contents, gained}
+use Rattle.trays.proofs.Gains.{gained-append}
 
--- what is held, with `rest` still to come, will be `all`; of the bytes that were spare at first those past the poured ones are left
-pub record Pouring (held spare rest all spare₀ : List ℕ) (total : ℕ) : Type 0 where
-  pub whole : held ++ rest ≡ all
-  pub room : length rest ≤ length spare
-  pub gone : ℕ
-  pub left : spare ≡ drop gone spare₀
-  pub count : gone + length rest ≡ total
+-- with `rest` still to come, which fits, the tray will be `full`
+pub record Pouring (tray : Contents) (rest : List ℕ) (full : Contents) : Type 0 where
+  pub room : length rest ≤ length tray.spare
+  pub whole : gained tray rest ≡ full
 
 -- one push more
-pub pushed : (held spare bytes rest all spare₀ held' spare' : List ℕ) (total : ℕ) → Pouring held spare (bytes ++ rest) all spare₀ total
-    → held' ≡ held ++ bytes → spare' ≡ drop (length bytes) spare → Pouring held' spare' rest all spare₀ total
-pushed held spare bytes rest all spare₀ held' spare' total p eh es =
-    let l = length-append bytes rest in
-    let r = p.room in
-    let c = p.count in
+pub pushed : (tray : Contents) (bytes rest : List ℕ) (full tray' : Contents) → Pouring tray (bytes ++ rest) full → tray' ≡ gained tray bytes → Pouring tray' rest full
+pushed tray bytes rest full tray' p e =
+    let spare : tray'.spare ≡ drop (length bytes) tray.spare = λ i. (e i).spare in
     record {
-      whole = ap (λ (h : List ℕ). h ++ rest) eh ∙ (append_assoc held bytes rest ∙ p.whole);
-      room = omega (arith, ap length es, length-drop (length bytes) spare);
-      gone = p.gone + length bytes;
-      left = es ∙ (ap (drop (length bytes)) p.left ∙ drop-drop (length bytes) p.gone spare₀);
-      count = omega arith;
+      room = omega (arith, p.room, ap length spare, length-drop (length bytes) tray.spare, length-append bytes rest);
+      whole = ap (λ (t : Contents). gained t rest) e ∙ (gained-append tray bytes rest ∙ p.whole);
     }
 
 -- one turn of the pass that pours: a piece's bytes, and then those that come after it
-module _ (held spare rest piece gap rest' all spare₀ : List ℕ) (total : ℕ) (so_far : Pouring held spare rest all spare₀ total) (parts : rest ≡ piece ++ (gap ++ rest')) where
-  split : Pouring held spare (piece ++ (gap ++ rest')) all spare₀ total
+module _ (tray : Contents) (rest piece gap rest' : List ℕ) (full : Contents) (so_far : Pouring tray rest full) (parts : rest ≡ piece ++ (gap ++ rest')) where
+  split : Pouring tray (piece ++ (gap ++ rest')) full
   split = rw parts at so_far
 
-  pub piece-fits : length piece ≤ length spare
+  pub piece-fits : length piece ≤ length tray.spare
   piece-fits = omega (arith, split.room, length-append piece (gap ++ rest'))
 
-  module _ (held' spare' : List ℕ) (eh : held' ≡ held ++ piece) (es : spare' ≡ drop (length piece) spare) where
-    between : Pouring held' spare' (gap ++ rest') all spare₀ total
-    between = pushed held spare piece (gap ++ rest') all spare₀ held' spare' total split eh es
+  module _ (half : Contents) (first : half ≡ gained tray piece) where
+    between : Pouring half (gap ++ rest') full
+    between = pushed tray piece (gap ++ rest') full half split first
 
-    pub gap_fits : length gap ≤ length spare'
+    pub gap_fits : length gap ≤ length half.spare
     gap_fits = omega (arith, between.room, length-append gap rest')
 
-    pub gap_poured : (held'' spare'' : List ℕ) → held'' ≡ held' ++ gap → spare'' ≡ drop (length gap) spare' → Pouring held'' spare'' rest' all spare₀ total
-    gap_poured held'' spare'' fh fs = pushed held' spare' gap rest' all spare₀ held'' spare'' total between fh fs
+    pub gap_poured : (tray' : Contents) → tray' ≡ gained half gap → Pouring tray' rest' full
+    gap_poured tray' e = pushed half gap rest' full tray' between e
 
 -- no more bytes come after a piece than stand in place of a mark
 pub gap_short : (last : Bool) (to : List ℕ) → length (cond last [] to) ≤ length to

@@ -1,17 +1,12 @@
 -- What next does, as the law's steps have it.
-use Rattle.std.proofs.Common.{◌≡◌, ℕ, suc, ◌+◌, Bool, true, false, List, [], length, Some, sym, ap, ◌∙◌, subst, add-one}
-use Rattle.std.specs.List.{concat}
-use Rattle.anystr.specs.Elements.{Boundary}
+use Rattle.std.proofs.Common.{◌≡◌, ℕ, suc, ◌+◌, Bool, true, false, [], Some, sym, ap, ◌∙◌, add-one}
 use Rattle.searchers.specs.Marks.{Span, Lawful, Least}
-use Rattle.cuts.specs.Cuts.{Sheet, size, cut_from, State, at, next_of}
+use Rattle.cuts.specs.Cuts.{Opening, size, cut_from, State, at, next_of}
 use Rattle.cuts.specs.Runs.{Step, next}
 use Rattle.cuts.proofs.Found.{next-cut, next-rest}
 use Rattle.cuts.proofs.Greedy.{Few}
-use Rattle.cutters.specs.Calls.{PieceOn, span}
-use Rattle.cutters.specs.declared.piece.Piece.{Piece}
-use Rattle.cutters.proofs.Ends.{end_on}
 
-module _ (on : Sheet) (law : Lawful on.marks (size on)) (place made : ℕ) (spent : Bool) (unspent : spent ≡ false) where
+module _ (on : Opening) (law : Lawful on.marks (size on)) (place made : ℕ) (spent : Bool) (unspent : spent ≡ false) where
   pub rest-step : cut_from on made place ≡ [] → (r : Span) (t : State) → r ≡ (place, size on) → t ≡ at (size on) made true → Step on (at place made spent) (next (Some r)) t
   rest-step none r t er et =
       let e : next_of on (at place made spent) ≡ (Some (place, size on), at (size on) made true) = ap (λ b. next_of on (at place made b)) unspent ∙ next-rest on law made place none in
@@ -22,9 +17,3 @@ module _ (on : Sheet) (law : Lawful on.marks (size on)) (place made : ℕ) (spen
       let q : next_of on (at place made spent) ≡ (Some (place, a), at e (suc made) false) = ap (λ b. next_of on (at place made b)) unspent ∙ next-cut on law made place a e few least in
       let m : made + 1 ≡ suc made = add-one made in
       ((λ i. (sym q i).0), (λ i. at e (m i) (unspent i)) ∙ (λ i. (sym q i).1))
-
--- the whole rest lies on boundaries, and so does the place after it
-pub rest-on : (es : List (List ℕ)) (place place' : ℕ) (r : Piece) → span r ≡ (place, length (concat es)) → place' ≡ length (concat es) → Boundary es place → PieceOn es (Some r) × Boundary es place'
-rest-on es place place' r er ep b =
-    let last = end_on es in
-    ((subst (Boundary es) (λ i. (sym er i).0) b, subst (Boundary es) (λ i. (sym er i).1) last), subst (Boundary es) (sym ep) last)

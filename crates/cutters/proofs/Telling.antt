@@ -1,32 +1,30 @@
--- What is told of a call.
-use Rattle.std.proofs.Common.{◌≡◌, ℕ, List, Some, None, Ok, Err, Result, sym, subst}
+-- What is told of calls, and of a pour into a tray of a list.
+use Rattle.std.proofs.Common.{◌≡◌, ℕ, List, map, set, Result, sym, subst}
+use Rattle.std.specs.List.{concat}
+use Rattle.anystr.specs.Refusals.{coded}
 use Rattle.anystr.specs.declared.anystr.AnyStr
 use Rattle.anystr.specs.declared.refusal.Refusal.{Refusal}
-use Rattle.searchers.specs.Marks.{Marks}
 use Rattle.searchers.specs.declared.searcher.Searcher
-use Rattle.cuts.specs.Runs.{Event, skip}
-use Rattle.cutters.specs.Calls.{sheet, state, Skips, Pours}
-use Rattle.cutters.specs.Plays.{Plays, Answered, skipped, skip_refused, poured, pour_was_refused}
+use Rattle.trays.specs.Trays.{Contents}
+use Rattle.cuts.specs.Runs.{Event, Step, pour}
+use Rattle.cutters.specs.Calls.{opening, state}
+use Rattle.cutters.specs.Plays.{tray_at, Plays, PoursAt}
 use Rattle.cutters.specs.declared.cutter.Cutter.{Cutter}
 use Rattle.cutters.specs.declared.play.Call.{Call}
-use Rattle.cutters.specs.declared.play.Call.TheVariants.{Skip, Pour}
 use Rattle.cutters.specs.declared.play.Answer.{Answer}
-use Rattle.cutters.specs.declared.play.Answer.TheVariants as answer
-
--- a skip and a pour are steps, refused or not
-module _ {S F C : Type 0} {s : AnyStr.Ghosts S C} {f : Searcher.Ghosts F S C} (marks : F → List (List ℕ) → Marks) (elements : S → List (List ℕ)) (c d : Cutter S F C s f) where
-  pub skip_told : {Tray : Type 0} (held spare : Tray → List ℕ) (n : ℕ) (tray : Tray) (r : Result (Unit {0}) Refusal) → Skips marks elements c n r d
-      → Answered {C = C} elements held spare (sheet marks elements c) (state c) (Skip n) tray (answer.Skip r) (state d) tray
-  skip_told held spare n tray (Ok tt) st = (skip n None, skipped n, st)
-  skip_told held spare n tray (Err e) st = (skip n (Some st.0), skip_refused n st.0 e st.1, st.2)
-
-  pub pour_told : {Tray : Type 0} (held spare : Tray → List ℕ) (to : S) (tray tray' : Tray) (r : Result (Unit {0}) Refusal) → Pours marks elements held spare c to tray r d tray'
-      → Answered {C = C} elements held spare (sheet marks elements c) (state c) (Pour to) tray (answer.Pour r) (state d) tray'
-  pour_told held spare to tray tray' (Ok tt) st = (_, poured to, st.0)
-  pour_told held spare to tray tray' (Err e) st = (_, pour_was_refused to e st.0 st.1, st.2)
 
 -- the same of calls and answers that are known by equations
-pub plays_at : {S C : Type 0} {bytes : S → List ℕ} {cs cs' : List (Call S C)} {rs rs' : List Answer} {h h' : List ℕ} {f f' : ℕ} {es : List Event}
-    → cs ≡ cs' → rs ≡ rs' → Plays bytes cs' rs' h f es h' f' → Plays bytes cs rs h f es h' f'
-plays_at {bytes = bytes} {cs = cs} {rs' = rs'} {h = h} {h' = h'} {f = f} {f' = f'} {es = es} p q t =
-    subst (λ x. Plays bytes cs x h f es h' f') (sym q) (subst (λ x. Plays bytes x rs' h f es h' f') (sym p) t)
+pub plays_at : {S C : Type 0} {s : AnyStr.Ghosts S C} {cs cs' : List (Call S C)} {rs rs' : List Answer} {ts ts' : List Contents} {es : List Event}
+    → cs ≡ cs' → rs ≡ rs' → Plays s cs' rs' ts es ts' → Plays s cs rs ts es ts'
+plays_at {s = s} {cs = cs} {rs' = rs'} {ts = ts} {ts' = ts'} {es = es} p q t =
+    subst (λ x. Plays s cs x ts es ts') (sym q) (subst (λ x. Plays s x rs' ts es ts') (sym p) t)
+
+-- a pour into a tray `t`, which is the one that the list has at the index
+pub pours_at : {S F C : Type 0} {s : AnyStr.Ghosts S C} {f : Searcher.Ghosts F S C} {Tray : Type 0} (contents : Tray → Contents) (c d : Cutter S F C s f) (to : S) (i : ℕ) (trays trays' : List Tray)
+    (r : Result (Unit {0}) Refusal) (t t' : Contents) → t ≡ tray_at (map contents trays) i → map contents trays' ≡ set (map contents trays) i t'
+    → Step (opening c) (state c) (pour (concat (s.elements to)) t (coded r) t') (state d) → PoursAt contents c to i trays r d trays'
+pours_at {s = s} contents c d to i trays trays' r t t' at others step = record {
+  tray' = t';
+  others = others;
+  step = subst (λ (x : Contents). Step (opening c) (state c) (pour (concat (s.elements to)) x (coded r) t') (state d)) at step;
+}

@@ -3,17 +3,17 @@ use Rattle.std.proofs.Common.{◌≡◌, ℕ, ◌-◌, ◌^◌, ◌<◌, ◌≤�
 use Rattle.std.specs.List.{concat}
 use Rattle.anystr.specs.Limits.{most_bytes}
 use Rattle.anystr.specs.declared.anystr.AnyStr
-use Rattle.searchers.specs.Marks.{Marks, Span, Lawful}
+use Rattle.searchers.specs.Marks.{Span, Lawful}
 use Rattle.searchers.specs.declared.searcher.Searcher
-use Rattle.cuts.specs.Cuts.{Sheet, size, State, at}
+use Rattle.cuts.specs.Cuts.{Opening, size, State, at}
 use Rattle.cuts.specs.Runs.{Step, next}
 use Rattle.cuts.proofs.Left.{to_pour, gave}
 use Rattle.cuts.proofs.Sizes.{poured-fits}
-use Rattle.cutters.specs.Calls.{sheet, state, SameSheet}
+use Rattle.cutters.specs.Calls.{opening, state, SameOpening}
 use Rattle.cutters.specs.declared.cutter.Cutter.{Cutter}
 use Rattle.cutters.proofs.Same.{step_on}
 
-module _ (on : Sheet) (law : Lawful on.marks (size on)) (to : List ℕ) where
+module _ (on : Opening) (law : Lawful on.marks (size on)) (to : List ℕ) where
   -- the bytes of a piece, those of `to` unless it is the last, and then the bytes that are still to come
   pub turn : (s t : State) (p : Span) → Step on s (next (Some p)) t → (bytes piece gap : List ℕ) → bytes ≡ on.bytes → piece ≡ take (p.1 - p.0) (drop p.0 bytes) → gap ≡ cond t.spent [] to
       → to_pour on to s ≡ piece ++ (gap ++ to_pour on to t)
@@ -28,9 +28,9 @@ module _ (on : Sheet) (law : Lawful on.marks (size on)) (to : List ℕ) where
       by true = omega arith
       by false = poured-fits on law to s.made s.place few short
 
-module _ {S F C : Type 0} {s : AnyStr.Ghosts S C} {f : Searcher.Ghosts F S C} (marks : F → List (List ℕ) → Marks) (elements : S → List (List ℕ)) (k here after : Cutter S F C s f) (p : Span) where
+module _ {S F C : Type 0} {s : AnyStr.Ghosts S C} {f : Searcher.Ghosts F S C} (k here after : Cutter S F C s f) (p : Span) where
   -- the same of a cutter that was opened as `k`, and whose next gave the piece
-  pub turned : Lawful (marks k.searcher (elements k.text)) (length (concat (elements k.text))) → SameSheet k here → Step (sheet marks elements here) (state here) (next (Some p)) (state after)
-      → (to bytes piece gap : List ℕ) → bytes ≡ concat (elements k.text) → piece ≡ take (p.1 - p.0) (drop p.0 bytes) → gap ≡ cond after.progress.spent [] to
-      → to_pour (sheet marks elements k) to (state here) ≡ piece ++ (gap ++ to_pour (sheet marks elements k) to (state after))
-  turned law same step to bytes piece gap = turn (sheet marks elements k) law to (state here) (state after) p (step_on marks elements k here after p same step) bytes piece gap
+  pub turned : Lawful (f.marks k.searcher (s.elements k.text)) (length (concat (s.elements k.text))) → SameOpening k here → Step (opening here) (state here) (next (Some p)) (state after)
+      → (to bytes piece gap : List ℕ) → bytes ≡ concat (s.elements k.text) → piece ≡ take (p.1 - p.0) (drop p.0 bytes) → gap ≡ cond after.progress.spent [] to
+      → to_pour (opening k) to (state here) ≡ piece ++ (gap ++ to_pour (opening k) to (state after))
+  turned law same step to bytes piece gap = turn (opening k) law to (state here) (state after) p (step_on k here after p same step) bytes piece gap

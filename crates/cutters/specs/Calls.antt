@@ -1,78 +1,90 @@
--- What each call on a cutter promises: the step of its event. Assumes nothing.
-use Rattle.std.specs.Prelude.{◌≡◌, ℕ, List, length, drop, Some, None, Ok, Err, Option, Result}
+-- What a cutter shows, and what each call on it promises: the step of its event. Assumes nothing.
+use Rattle.std.specs.Prelude.{◌≡◌, ℕ, List, ℤ, Some, None, Option, Result}
 use Rattle.std.specs.Option.{option_map}
 use Rattle.std.specs.List.{concat}
 use Rattle.anystr.specs.Elements.{Boundary}
-use Rattle.anystr.specs.Refusals.{code}
+use Rattle.anystr.specs.Refusals.{coded}
 use Rattle.anystr.specs.declared.anystr.AnyStr
 use Rattle.anystr.specs.declared.refusal.Refusal.{Refusal}
-use Rattle.searchers.specs.Marks.{Marks, Span}
+use Rattle.searchers.specs.Marks.{Span}
 use Rattle.searchers.specs.declared.searcher.Searcher
-use Rattle.cuts.specs.Cuts.{Sheet, State, at, pieces_left}
-use Rattle.cuts.specs.Runs.{Step, next, skip, rest, pours, pour_refused, needed}
+use Rattle.trays.specs.Trays.{Contents}
+use Rattle.cuts.specs.Cuts.{Opening, State, at, pieces_left, needed}
+use Rattle.cuts.specs.Runs.{Step, next, skip, rest, pour}
 use Rattle.cutters.specs.declared.cutter.Cutter.{Cutter}
 use Rattle.cutters.specs.declared.piece.Piece.{Piece}
 use Rattle.cutters.specs.declared.progress.Progress.{Progress}
+
+-- a piece by its start and its end
+abbrev pub span : Piece → Span
+span p = (p.start, p.end)
 
 -- the state at a cutter's progress
 abbrev pub state_at : Progress → State
 state_at p = at p.place p.made p.spent
 
-module _ {S F C : Type 0} {s : AnyStr.Ghosts S C} {f : Searcher.Ghosts F S C} where
-  -- what a cutter was opened on, by the meanings of its searcher and of its text
-  abbrev pub sheet : (F → List (List ℕ) → Marks) → (S → List (List ℕ)) → Cutter S F C s f → Sheet
-  sheet marks elements c = record { marks = marks c.searcher (elements c.text); bytes = concat (elements c.text); bound = c.bound }
+-- what a cutter on this text, with this searcher and this bound, is opened on
+abbrev pub opening_of : {S F C : Type 0} (s : AnyStr.Ghosts S C) (f : Searcher.Ghosts F S C) → S → F → ℤ → Opening
+opening_of s f text searcher bound =
+    record { marks = f.marks searcher (s.elements text); bytes = concat (s.elements text); bound = bound }
 
+-- a piece lies on boundaries of a text
+abbrev pub OnText : List (List ℕ) → Option Piece → Type 0
+OnText es None = Unit {0}
+OnText es (Some p) = Boundary es p.start × Boundary es p.end
+
+module _ {S F C : Type 0} {s : AnyStr.Ghosts S C} {f : Searcher.Ghosts F S C} where
+  -- what a cutter was opened on
+  abbrev pub opening : Cutter S F C s f → Opening
+  opening c = opening_of s f c.text c.searcher c.bound
+
+  -- its place, the cuts that it has made, and whether it is spent
   abbrev pub state : Cutter S F C s f → State
   state c = state_at c.progress
 
-  -- the pieces that a cutter has left, in the order in which they come
-  abbrev pub left : (F → List (List ℕ) → Marks) → (S → List (List ℕ)) → Cutter S F C s f → List Span
-  left marks elements c = pieces_left (sheet marks elements c) (state c)
+  -- the pieces that it has left, in the order in which they come
+  abbrev pub left_pieces : Cutter S F C s f → List Span
+  left_pieces c = pieces_left (opening c) (state c)
 
-  -- a cutter's place is a boundary
-  abbrev pub Placed : (S → List (List ℕ)) → Cutter S F C s f → Type 0
-  Placed elements c = Boundary (elements c.text) c.progress.place
+  -- it is on this text, with this searcher and this bound
+  pub record IsOn (on_text : S) (by_searcher : F) (to_bound : ℤ) (c : Cutter S F C s f) : Type 0 where
+    pub text : c.text ≡ on_text
+    pub searcher : c.searcher ≡ by_searcher
+    pub bound : c.bound ≡ to_bound
 
   -- text, searcher and bound are as they were
-  pub record SameSheet (c d : Cutter S F C s f) : Type 0 where
+  pub record SameOpening (c d : Cutter S F C s f) : Type 0 where
     pub text : d.text ≡ c.text
     pub searcher : d.searcher ≡ c.searcher
     pub bound : d.bound ≡ c.bound
 
-abbrev pub span : Piece → Span
-span p = (p.start, p.end)
+  -- a piece lies on boundaries of its text
+  abbrev pub PieceOn : Cutter S F C s f → Option Piece → Type 0
+  PieceOn c p = OnText (s.elements c.text) p
 
--- a piece lies on boundaries
-abbrev pub PieceOn : List (List ℕ) → Option Piece → Type 0
-PieceOn es None = Unit {0}
-PieceOn es (Some p) = Boundary es p.start × Boundary es p.end
+  -- the bytes of its rest, with those of `to` in place of each mark that is still to be cut
+  abbrev pub poured_by : Cutter S F C s f → S → List ℕ
+  poured_by c to = needed (opening c) (concat (s.elements to)) (state c)
 
--- the refusal of a pour: spent, or the bytes that are needed
-abbrev pub pour_code : Option ℕ → ℕ × ℕ
-pour_code None = (8, 0)
-pour_code (Some n) = (7, n)
-
-module _ {S F C : Type 0} {s : AnyStr.Ghosts S C} {f : Searcher.Ghosts F S C} (marks : F → List (List ℕ) → Marks) (elements : S → List (List ℕ)) where
   -- next's answer on a cutter, and the cutter after it
   abbrev pub Nexts : Cutter S F C s f → Option Piece → Cutter S F C s f → Type 0
-  Nexts c r d = Step (sheet marks elements c) (state c) (next (option_map span r)) (state d)
+  Nexts c r d = Step (opening c) (state c) (next (option_map span r)) (state d)
 
   -- rest's answer; the cutter stays
   abbrev pub Rests : Cutter S F C s f → Piece → Type 0
-  Rests c r = Step (sheet marks elements c) (state c) (rest (span r)) (state c)
+  Rests c r = Step (opening c) (state c) (rest (span r)) (state c)
 
   -- skip's answer, and the cutter after it
-  abbrev pub Skips : {X : Type 0} → Cutter S F C s f → ℕ → Result X Refusal → Cutter S F C s f → Type 0
-  Skips c n (Ok _) d = Step (sheet marks elements c) (state c) (skip n None) (state d)
-  Skips c n (Err e) d = (left : ℕ) × (code e ≡ (9, left)) × Step (sheet marks elements c) (state c) (skip n (Some left)) (state d)
+  abbrev pub Skips : Cutter S F C s f → ℕ → Result (Unit {0}) Refusal → Cutter S F C s f → Type 0
+  Skips c n r d = Step (opening c) (state c) (skip n (coded r)) (state d)
 
   -- pour's answer, with the tray before it and after it, and the cutter after it
-  abbrev pub Pours : {X Tray : Type 0} → (held spare : Tray → List ℕ) → Cutter S F C s f → S → Tray → Result X Refusal → Cutter S F C s f → Tray → Type 0
-  Pours held spare c to tray (Ok _) d tray' =
-      Step (sheet marks elements c) (state c) (pours (concat (elements to)) (held tray) (length (spare tray)) (held tray') (length (spare tray'))) (state d)
-      × (spare tray' ≡ drop (length (needed (sheet marks elements c) (concat (elements to)) (state c))) (spare tray))
-  Pours held spare c to tray (Err e) d tray' =
-      (why : Option ℕ) × (code e ≡ pour_code why)
-      × Step (sheet marks elements c) (state c) (pour_refused (concat (elements to)) (held tray) (length (spare tray)) (held tray') (length (spare tray')) why) (state d)
-      × (spare tray' ≡ spare tray)
+  abbrev pub Pours : {Tray : Type 0} → (Tray → Contents) → Cutter S F C s f → S → Tray → Result (Unit {0}) Refusal → Cutter S F C s f → Tray → Type 0
+  Pours contents c to tray r d tray' =
+      Step (opening c) (state c) (pour (concat (s.elements to)) (contents tray) (coded r) (contents tray')) (state d)
+
+  -- all that a next promises, as one fact: its step, and what stays
+  pub record NextStep (c : Cutter S F C s f) (r : Option Piece) (d : Cutter S F C s f) : Type 0 where
+    pub step : Nexts c r d
+    pub same : SameOpening c d
+    pub cut : PieceOn c r

@@ -1,56 +1,84 @@
 -- A list of calls with their answers, as a run of the law. Assumes nothing.
-use Rattle.std.specs.Prelude.{◌≡◌, ℕ, ◌<◌, ◌≤◌, List, [], ◌∷◌, ◌++◌, length, take, drop, ℤ, Some, None, Ok, Err, Option, Result}
+use Rattle.std.specs.Prelude.{◌≡◌, ℕ, ◌<◌, ◌≤◌, List, [], ◌∷◌, ◌++◌, All, map, length, take, drop, Some, Ok, Err, Option, Result, slice_index_or, slice_set}
 use Rattle.std.specs.Option.{option_map}
 use Rattle.std.specs.List.{concat}
-use Rattle.anystr.specs.Refusals.{code}
+use Rattle.anystr.specs.Refusals.{code, coded}
+use Rattle.anystr.specs.declared.anystr.AnyStr
 use Rattle.anystr.specs.declared.refusal.Refusal.{Refusal}
-use Rattle.searchers.specs.Marks.{Marks}
-use Rattle.cuts.specs.Cuts.{Sheet, State, opened}
-use Rattle.cuts.specs.Runs.{Event, Step, Run, After, next, skip, rest, pours, pour_refused}
-use Rattle.cutters.specs.Calls.{span, pour_code}
+use Rattle.anystr.specs.declared.refusal.Refusal.TheVariants.{TooSmall}
+use Rattle.searchers.specs.declared.searcher.Searcher
+use Rattle.trays.specs.Trays.{Contents, empty_tray}
+use Rattle.cuts.specs.Cuts.{Opening, State, at_opening}
+use Rattle.cuts.specs.Runs.{Event, Step, Run, After, next, skip, rest, pour}
+use Rattle.cutters.specs.Calls.{span, opening, state, OnText}
+use Rattle.cutters.specs.declared.cutter.Cutter.{Cutter}
 use Rattle.cutters.specs.declared.piece.Piece.{Piece}
 use Rattle.cutters.specs.declared.play.Call.{Call}
 use Rattle.cutters.specs.declared.play.Call.TheVariants.{Next, Skip, Rest, Pour}
 use Rattle.cutters.specs.declared.play.Answer.{Answer}
 use Rattle.cutters.specs.declared.play.Answer.TheVariants as answer
 
-module _ {S C : Type 0} (bytes : S → List ℕ) where
-  -- the call and its answer are the event; the tray holds and has free so many bytes before it and after it
-  pub data Told : Call S C → Answer → List ℕ → ℕ → Event → List ℕ → ℕ → Type 0 where
-    gave : {h : List ℕ} {f : ℕ} (r : Option Piece) → Told Next (answer.Next r) h f (next (option_map span r)) h f
-    skipped : {h : List ℕ} {f : ℕ} (n : ℕ) → Told (Skip n) (answer.Skip (Ok tt)) h f (skip n None) h f
-    skip_refused : {h : List ℕ} {f : ℕ} (n left : ℕ) (r : Refusal) → code r ≡ (9, left) → Told (Skip n) (answer.Skip (Err r)) h f (skip n (Some left)) h f
-    rested : {h : List ℕ} {f : ℕ} (p : Piece) → Told Rest (answer.Rest p) h f (rest (span p)) h f
-    poured : {h h' : List ℕ} {f f' : ℕ} (to : S) → Told (Pour to) (answer.Pour (Ok tt)) h f (pours (bytes to) h f h' f') h' f'
-    pour_was_refused : {h h' : List ℕ} {f f' : ℕ} (to : S) (r : Refusal) (why : Option ℕ) → code r ≡ pour_code why → Told (Pour to) (answer.Pour (Err r)) h f (pour_refused (bytes to) h f h' f' why) h' f'
+-- the tray of a list that a pour names; one that is not there holds nothing and has no free byte
+abbrev pub tray_at : List Contents → ℕ → Contents
+tray_at trays i = slice_index_or trays i (empty_tray [])
+
+-- the pieces of an answer lie on boundaries of a text
+abbrev pub AnswerOn : List (List ℕ) → Answer → Type 0
+AnswerOn es (answer.Next r) = OnText es r
+AnswerOn es (answer.Skip _) = Unit {0}
+AnswerOn es (answer.Rest p) = OnText es (Some p)
+AnswerOn es (answer.Pour _) = Unit {0}
+
+module _ {S C : Type 0} (s : AnyStr.Ghosts S C) where
+  -- the call and its answer are the event; the trays before it and after it, of which a pour changes the one that it names
+  pub data Told : Call S C → Answer → List Contents → Event → List Contents → Type 0 where
+    gave : {ts : List Contents} (r : Option Piece) → Told Next (answer.Next r) ts (next (option_map span r)) ts
+    skipped : {ts : List Contents} (n : ℕ) (r : Result (Unit {0}) Refusal) → Told (Skip n) (answer.Skip r) ts (skip n (coded r)) ts
+    rested : {ts : List Contents} (p : Piece) → Told Rest (answer.Rest p) ts (rest (span p)) ts
+    poured : {ts : List Contents} (to : S) (i : ℕ) (r : Result (Unit {0}) Refusal) (t : Contents)
+        → Told (Pour to i) (answer.Pour r) ts (pour (concat (s.elements to)) (tray_at ts i) (coded r) t) (slice_set ts i t)
 
   -- calls and their answers, in turn, are the events, of which the latest stands first
-  pub data Plays : List (Call S C) → List Answer → List ℕ → ℕ → List Event → List ℕ → ℕ → Type 0 where
-    none : {h : List ℕ} {f : ℕ} → Plays [] [] h f [] h f
-    more : {cs : List (Call S C)} {rs : List Answer} {h h' h'' : List ℕ} {f f' f'' : ℕ} {es : List Event} {c : Call S C} {a : Answer} {e : Event}
-        → Plays cs rs h f es h' f' → Told c a h' f' e h'' f'' → Plays (cs ++ c ∷ []) (rs ++ a ∷ []) h f (e ∷ es) h'' f''
-
-module _ {S C : Type 0} (elements : S → List (List ℕ)) where
-  -- one call, with the tray before it and after it: its answer is that of a step
-  abbrev pub Answered : {Tray : Type 0} → (held spare : Tray → List ℕ) → Sheet → State → Call S C → Tray → Answer → State → Tray → Type 0
-  Answered held spare on s c tray a t tray' =
-      (e : Event) × Told (λ to. concat (elements to)) c a (held tray) (length (spare tray)) e (held tray') (length (spare tray')) × Step on s e t
+  pub data Plays : List (Call S C) → List Answer → List Contents → List Event → List Contents → Type 0 where
+    none : {ts : List Contents} → Plays [] [] ts [] ts
+    more : {cs : List (Call S C)} {rs : List Answer} {ts ts' ts'' : List Contents} {es : List Event} {c : Call S C} {a : Answer} {e : Event}
+        → Plays cs rs ts es ts' → Told c a ts' e ts'' → Plays (cs ++ c ∷ []) (rs ++ a ∷ []) ts (e ∷ es) ts''
 
   -- a list of calls: the answers are those of a run since the cutter was opened, of which the law speaks
-  pub record Played (on : Sheet) (calls : List (Call S C)) (answers : List Answer) (h : List ℕ) (f : ℕ) (h' : List ℕ) (f' : ℕ) : Type 0 where
+  pub record Played (on : Opening) (calls : List (Call S C)) (trays : List Contents) (answers : List Answer) (trays' : List Contents) : Type 0 where
     pub events : List Event
     pub at_last : State
-    pub run : Run on opened events at_last
-    pub told : Plays (λ to. concat (elements to)) calls answers h f events h' f'
+    pub run : Run on at_opening events at_last
+    pub told : Plays calls answers trays events trays'
     pub law : After on events at_last
 
-  -- what play answers: the answers stand first in their list, and later entries are as they were; refused, nothing changes
-  abbrev pub PlaysOut : {X : Type 0} → Sheet → List (Call S C) → (answers answers' : List Answer) (held spare held' spare' : List ℕ) → Result X Refusal → Type 0
-  PlaysOut on calls answers answers' held spare held' spare' (Ok _) =
-      (length calls ≤ length answers) × Played on calls (take (length calls) answers') held (length spare) held' (length spare') × (drop (length calls) answers' ≡ drop (length calls) answers)
-  PlaysOut on calls answers answers' held spare held' spare' (Err e) =
-      (length answers < length calls) × (code e ≡ (7, length calls)) × (answers' ≡ answers) × (held' ≡ held) × (spare' ≡ spare)
+  -- What play answers, with the trays and the list of answers before it and after it. The answers stand first in their
+  -- list, and later entries are as they were. Refused for want of entries, it changes nothing.
+  abbrev pub PlaysOut : {Tray : Type 0} → (Tray → Contents) → Opening → List (Call S C) → (trays trays' : List Tray) (answers answers' : List Answer) → Result (Unit {0}) Refusal → Type 0
+  PlaysOut contents on calls trays trays' answers answers' (Ok _) =
+      (length calls ≤ length answers)
+      × Played on calls (map contents trays) (take (length calls) answers') (map contents trays')
+      × (drop (length calls) answers' ≡ drop (length calls) answers)
+  PlaysOut contents on calls trays trays' answers answers' (Err e) =
+      (length answers < length calls) × (code e ≡ code (TooSmall (length calls))) × (answers' ≡ answers) × (trays' ≡ trays)
 
--- what a cutter is opened on
-abbrev pub opened_on : (List (List ℕ) → Marks) → List (List ℕ) → ℤ → Sheet
-opened_on marks es bound = record { marks = marks es; bytes = concat es; bound = bound }
+  -- the pieces that the answers give lie on boundaries of the text, if the calls were made
+  abbrev pub PlaysOn : S → List (Call S C) → List Answer → Result (Unit {0}) Refusal → Type 0
+  PlaysOn text calls answers' (Ok _) = All (AnswerOn (s.elements text)) (take (length calls) answers')
+  PlaysOn text calls answers' (Err _) = Unit {0}
+
+module _ {S F C : Type 0} {s : AnyStr.Ghosts S C} {f : Searcher.Ghosts F S C} where
+  -- the pieces of an answer lie on boundaries of a cutter's text
+  abbrev pub AnswersOn : Cutter S F C s f → Answer → Type 0
+  AnswersOn c a = AnswerOn (s.elements c.text) a
+
+  -- a pour into the tray of a list that has an index, with the trays before it and after it
+  pub record PoursAt {Tray : Type 0} (contents : Tray → Contents) (c : Cutter S F C s f) (to : S) (i : ℕ) (trays : List Tray) (r : Result (Unit {0}) Refusal) (d : Cutter S F C s f) (trays' : List Tray) : Type 0 where
+    pub tray' : Contents
+    pub others : map contents trays' ≡ slice_set (map contents trays) i tray'
+    pub step : Step (opening c) (state c) (pour (concat (s.elements to)) (tray_at (map contents trays) i) (coded r) tray') (state d)
+
+  -- one call, with the trays before it and after it: its answer is that of a step
+  abbrev pub Answered : {Tray : Type 0} → (Tray → Contents) → Cutter S F C s f → Call S C → List Tray → Answer → Cutter S F C s f → List Tray → Type 0
+  Answered contents c call trays a d trays' =
+      (e : Event) × Told s call a (map contents trays) e (map contents trays') × Step (opening c) (state c) e (state d)

@@ -1,2 +1,4 @@
+pub mod Lefts
 pub mod Skipped
 pub mod Sources
+pub mod Yields

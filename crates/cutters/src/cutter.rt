@@ -1,6 +1,6 @@
 // The cutter: a text with its place, and a searcher.
-ghost use Rattle.std.specs.Prelude.{◌≡◌, ◌≤◌, false, ⊤};
-ghost use Rattle.anystr.specs.Limits.{most_bytes};
+ghost use Rattle.std.specs.Prelude.{◌≡◌, ◌≤◌, false, IsTrue, ⊤};
+ghost use Rattle.anystr.specs.Elements.{on_boundary};
 
 use crate::progress::Progress;
 use anystr::anystr::AnyStr;
@@ -10,16 +10,17 @@ use std::alloc::AllocError;
 mod calls;
 pub mod iter;
 
-// A text that is cut at the marks of a searcher, in their order, while fewer cuts are made than the bound.
-// The rest is the text from the place on; a spent cutter has given its last piece.
+/// A text that is cut at the marks of a searcher, in their order, while fewer cuts are made than the bound.
+/// Its place, up to which it has cut, is a boundary of the text, and the rest is the text from there on. A spent cutter
+/// has given its last piece.
 #[derive(Drop)]
 pub struct Cutter<S: AnyStr, F: Searcher<S>> {
     text: S,
     searcher: F,
     bound: i64,
     progress: Progress,
-    ghost few: { progress.made ≤ most_bytes },
-    ghost behind: { (progress.spent ≡ false → progress.made ≤ progress.place) },
+    ghost placed: { IsTrue (on_boundary (S.elements text) progress.place) },
+    ghost behind: { progress.spent ≡ false → progress.made ≤ progress.place },
 }
 
 // Not derived: Rattle derives no clone of a struct with a ghost field whose parameters may be no copies.

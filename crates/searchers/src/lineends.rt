@@ -55,7 +55,7 @@ impl AsciiPattern for LineEnds {
 impl<S: AsciiStr> Searcher<S> for LineEnds {
     ghost marks = { λ _ es. line_end (concat es) };
 
-    ghost lawful = { λ _ es. line_end-lawful (concat es) };
+    ghost lawful = { λ _ text. line_end-lawful (concat (S.AnyStr.elements text)) };
 
     fn find(&self, text: &S, from: usize) -> Option<Mark> {
         first_ascii_mark(self, text, from)

@@ -11,13 +11,13 @@ pub trait Searcher<S: AnyStr> {
     // the meaning of a searcher: its marks in a text of these elements
     ghost marks: { Self → List (List ℕ) → Marks };
 
-    // a mark has a start below its end; no two share a start, and no two share an end
-    ghost lawful: { (f : Self) (es : List (List ℕ)) → Lawful (marks f es) (length (concat es)) };
-
     // The mark with the least start at or after `from`; none exactly when there is none.
     fn find(&self, text: &S, from: usize) -> Option<Mark>
         ensures value { Finds (marks self.now (S.AnyStr.elements text.now)) from result }
         ensures cut { OnBoundaries (S.AnyStr.elements text.now) result };
+
+    // in each text a mark has a start below its end; no two share a start, and no two share an end
+    ghost lawful: { (f : Self) (text : S) → Lawful (marks f (S.elements text)) (length (concat (S.elements text))) };
 }
 
 // A searcher that looks from the end too.

@@ -77,7 +77,7 @@ impl<'a> Pattern for Needle<'a> {
 impl<S: AnyStr> Searcher<S> for Substring<S> {
     ghost marks = { λ f es. occurrence (concat (S.AnyStr.elements f.needle)) (concat es) };
 
-    ghost lawful = { λ f es. occurrence-lawful (concat (S.AnyStr.elements f.needle)) (concat es) };
+    ghost lawful = { λ f text. occurrence-lawful (concat (S.AnyStr.elements f.needle)) (concat (S.AnyStr.elements text)) };
 
     fn find(&self, text: &S, from: usize) -> Option<Mark> {
         first_mark(&self.pattern(), text.as_bytes(), from)

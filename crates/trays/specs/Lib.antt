@@ -1,1 +1,4 @@
 pub mod Trays
+pub mod Buffers
+pub mod Labels
+pub mod AnyTrays

@@ -1,33 +1,45 @@
--- What a push into a tray answers and does, and the size of a label. Assumes nothing.
-use Rattle.std.specs.Prelude.{◌≡◌, ℕ, ◌+◌, ◌<◌, ◌≤◌, List, ◌++◌, length, take, drop, Ok, Err, Result}
+-- What a tray holds and has spare, and what a call that fills one answers and leaves. Assumes nothing.
+use Rattle.std.specs.Prelude.{◌≡◌, ℕ, ◌+◌, ◌<◌, ◌≤◌, List, [], ◌++◌, length, take, drop, Ok, Err, Result}
 use Rattle.anystr.specs.declared.refusal.Refusal.{Refusal}
+use Rattle.anystr.specs.declared.refusal.Refusal.TheVariants.{TooSmall}
 use Rattle.anystr.specs.Refusals.{code, coded}
 
--- the answer to a push of these bytes, with what the tray holds and has spare before it and after it
-abbrev pub Pushed : {X : Type 0} → (bytes held spare held' spare' : List ℕ) → Result X Refusal → Type 0
-Pushed bytes held spare held' spare' (Ok _) = (length bytes ≤ length spare) × (held' ≡ held ++ bytes) × (spare' ≡ drop (length bytes) spare)
-Pushed bytes held spare held' spare' (Err e) = (length spare < length bytes) × (code e ≡ (7, length bytes)) × (held' ≡ held) × (spare' ≡ spare)
+-- the bytes that a tray holds, and its spare bytes past them; as many are free
+pub record Contents : Type 0 where
+  pub held : List ℕ
+  pub spare : List ℕ
 
--- what a call says of a tray's bytes and of its answer, by what the tray holds and has spare before it and after it
-abbrev pub OnTray : {Tray R : Type 0} → ((held spare held' spare' : List ℕ) → R → Type 0) → (held spare : Tray → List ℕ) → Tray → Tray → R → Type 0
-OnTray Says held spare tray tray' r = Says (held tray) (spare tray) (held tray') (spare tray') r
+-- a tray that holds nothing, with these bytes spare
+abbrev pub empty_tray : List ℕ → Contents
+empty_tray bytes = record { held = []; spare = bytes }
 
--- the answer to a push into a tray that holds the first `len` of its bytes; accepted, it is how many are held then
+-- a tray over these bytes, of which it holds the first `len`
+abbrev pub holding : ℕ → List ℕ → Contents
+holding len bytes = record { held = take len bytes; spare = drop len bytes }
+
+-- all the bytes of a tray: those that it holds, and then the spare ones
+abbrev pub whole_tray : Contents → List ℕ
+whole_tray tray = tray.held ++ tray.spare
+
+-- a tray that gained these bytes, on the first of its spare ones
+abbrev pub gained : Contents → List ℕ → Contents
+gained tray bytes = record { held = tray.held ++ bytes; spare = drop (length bytes) tray.spare }
+
+-- The tray before and after a call that is defined to append these bytes or to be refused with a code, and its answer.
+-- Bytes that do not all fit are refused with their number. A refused call leaves the tray as it was.
+abbrev pub IsFilled : {X : Type 0} → Result (List ℕ) (ℕ × ℕ) → Contents → Contents → Result X (ℕ × ℕ) → Type 0
+IsFilled (Err c) tray tray' r = (r ≡ Err c) × (tray' ≡ tray)
+IsFilled (Ok bytes) tray tray' (Ok _) = (length bytes ≤ length tray.spare) × (tray' ≡ gained tray bytes)
+IsFilled (Ok bytes) tray tray' (Err c) =
+    (length tray.spare < length bytes) × (c ≡ code (TooSmall (length bytes))) × (tray' ≡ tray)
+
+-- the same of a tray of a type, by what such trays hold and have spare
+abbrev pub Fills : {Tray X : Type 0} → (Tray → Contents) → Result (List ℕ) (ℕ × ℕ) → Tray → Tray → Result X Refusal → Type 0
+Fills contents expected tray tray' r = IsFilled expected (contents tray) (contents tray') (coded r)
+
+-- Bytes written behind the first `len` of some bytes; the answer is how many are held then.
 abbrev pub Puts : (new : List ℕ) (len : ℕ) (bytes bytes' : List ℕ) → Result ℕ Refusal → Type 0
-Puts new len bytes bytes' (Ok end) = (end ≡ len + length new) × Pushed {X = ℕ} new (take len bytes) (drop len bytes) (take end bytes') (drop end bytes') (Ok end)
-Puts new len bytes bytes' (Err e) = (bytes' ≡ bytes) × Pushed {X = ℕ} new (take len bytes) (drop len bytes) (take len bytes') (drop len bytes') (Err e)
-
--- a tray gained all of these bytes, where all of them fit
-pub record Grown {Tray : Type 0} (holds past : Tray → List ℕ) (bytes : List ℕ) (tray tray' : Tray) : Type 0 where
-  pub held : holds tray' ≡ holds tray ++ bytes
-  pub spare : past tray' ≡ drop (length bytes) (past tray)
-
--- The answer of a call that is defined to append these bytes or to be refused with a code, with what the tray
--- holds and has spare before it and after it. Bytes that do not all fit are refused with 7 and their number.
-abbrev pub Fills : {X : Type 0} → Result (List ℕ) (ℕ × ℕ) → (held spare held' spare' : List ℕ) → Result X Refusal → Type 0
-Fills (Err c) held spare held' spare' r = (coded r ≡ Err c) × (held' ≡ held) × (spare' ≡ spare)
-Fills (Ok bytes) held spare held' spare' r = Pushed bytes held spare held' spare' r
-
--- the bytes of a label; the code's LABEL_BYTES
-abbrev pub label_bytes : ℕ
-label_bytes = 80
+Puts new len bytes bytes' (Ok end) =
+    (end ≡ len + length new) × (length new ≤ length (drop len bytes)) × (holding end bytes' ≡ gained (holding len bytes) new)
+Puts new len bytes bytes' (Err e) =
+    (length (drop len bytes) < length new) × (code e ≡ code (TooSmall (length new))) × (bytes' ≡ bytes)

@@ -1,13 +1,15 @@
 // A tray over a slice that the caller lends.
-ghost use Rattle.std.specs.Prelude.{◌≡◌, ◌≤◌, [], ◌++◌, length, take, drop};
+ghost use Rattle.std.specs.Prelude.{◌≡◌, ◌≤◌, length};
+ghost use Rattle.trays.specs.Trays.{empty_tray, whole_tray};
 
 use super::container::AnyStrContainer;
 use super::put::put;
 use anystr::anystr::AnyStr;
 use anystr::refusal::Refusal;
 
-// The slice's first `len` bytes are held, and the bytes past them are as the caller left them. A length beside the
-// slice, and no `Vec`: the room is the caller's, and there is no heap.
+/// A tray over a slice that the caller lends. What it holds stands first in the slice, and the bytes past that are as
+/// the caller left them.
+// A length beside the slice, and no `Vec`: the room is the caller's, and there is no heap.
 #[derive(Drop)]
 pub struct Buffer<'a> {
     bytes: &'a mut [u8],
@@ -16,24 +18,27 @@ pub struct Buffer<'a> {
 }
 
 impl<'a> Buffer<'a> {
-    // An empty tray with every byte of the slice free.
+    ghost use Rattle.trays.specs.Buffers.{buffer_contents, buffer_loan};
+
+    /// An empty tray with every byte of the slice free.
     pub fn new(bytes: &'a mut [u8]) -> Buffer<'a>
-        ensures held { take result.len result.bytes.now ≡ [] }
-        ensures spare { drop result.len result.bytes.now ≡ bytes.old }
+        ensures empty { buffer_contents result ≡ empty_tray bytes.old }
+        ensures same_loan { buffer_loan result ≡ bytes.entry.ghost_name }
     {
         Buffer { bytes, len: 0 }
     }
 
-    // The bytes that it holds.
+    /// The bytes that it holds.
     pub fn as_bytes(&self) -> &[u8]
-        ensures { result.now ≡ take self.now.len self.now.bytes.now }
+        ensures { result.now ≡ (buffer_contents self.now).held }
     {
         &self.bytes[..self.len]
     }
 
-    // The slice, given back: the bytes held, and then those past them.
+    /// The slice, given back: the bytes held, and then those past them.
     pub fn finish(self) -> &'a mut [u8]
-        ensures { result.now ≡ take self.entry.len self.entry.bytes.now ++ drop self.entry.len self.entry.bytes.now }
+        ensures whole { result.now ≡ whole_tray (buffer_contents self.entry) }
+        ensures same_loan { result.ghost_name ≡ buffer_loan self.entry }
     {
         let Buffer { bytes, len: _ } = self;
         bytes
@@ -41,9 +46,11 @@ impl<'a> Buffer<'a> {
 }
 
 impl<'a> AnyStrContainer for Buffer<'a> {
-    ghost held = { λ b. take b.len b.bytes.now };
+    ghost use Rattle.trays.specs.Buffers.{buffer_contents, buffer_loan};
 
-    ghost spare = { λ b. drop b.len b.bytes.now };
+    ghost contents = { buffer_contents };
+
+    ghost loan = { buffer_loan };
 
     fn free(&self) -> usize {
         self.bytes.len() - self.len

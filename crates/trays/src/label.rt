@@ -1,30 +1,40 @@
 // A tray of 80 bytes that is held by value.
-ghost use Rattle.std.specs.Prelude.{◌≡◌, ◌-◌, ◌≤◌, [], take, drop, replicate};
-ghost use Rattle.trays.specs.Trays.{label_bytes};
+ghost use Rattle.std.specs.Prelude.{◌≡◌, []};
+ghost use Rattle.trays.specs.Labels.{label_contents};
 
 use super::container::AnyStrContainer;
 use super::put::put;
 use anystr::anystr::AnyStr;
 use anystr::refusal::Refusal;
+use std::marker::Model;
 
-// The bytes of a label.
+/// The bytes of a label.
 pub const LABEL_BYTES: usize = 80;
 
-// The first `len` bytes are held, and every byte past them is zero. A length beside the bytes, and no `Vec`: a label
-// is held by value.
+/// A tray of 80 bytes that is held by value. Every byte past those that it holds is zero. In contracts a label is the
+/// list of the bytes that it holds.
+// A length beside the bytes, and no `Vec`: a label is held by value.
 #[derive(Drop)]
 pub struct Label {
     bytes: [u8; LABEL_BYTES],
     len: usize,
-    ghost fits: { len ≤ label_bytes },
-    ghost clear: { drop len bytes ≡ replicate (label_bytes - len) 0 },
+}
+
+impl Model for Label {
+    ghost use Rattle.std.specs.Prelude.{◌≡◌, ℕ, ◌≤◌, List, take, drop};
+    ghost use Rattle.trays.specs.Labels.{label_bytes, zeros_past};
+
+    ghost Value = { List ℕ };
+
+    ghost view = { λ l. take l.len l.bytes };
+
+    ghost invariant = { λ l. (l.len ≤ label_bytes) × (drop l.len l.bytes ≡ zeros_past l.len) };
 }
 
 impl Label {
-    // An empty label with every byte free.
+    /// An empty label, with all its 80 bytes free.
     pub fn new() -> Label
-        ensures held { take result.len result.bytes ≡ [] }
-        ensures spare { drop result.len result.bytes ≡ replicate label_bytes 0 }
+        ensures { result ≡ [] }
     {
         Label {
             bytes: [0; LABEL_BYTES],
@@ -32,18 +42,18 @@ impl Label {
         }
     }
 
-    // The bytes that it holds.
+    /// The bytes that it holds.
     pub fn as_bytes(&self) -> &[u8]
-        ensures { result.now ≡ take self.now.len self.now.bytes }
+        ensures { result.now ≡ self.now }
     {
         &self.bytes[..self.len]
     }
 }
 
 impl AnyStrContainer for Label {
-    ghost held = { λ l. take l.len l.bytes };
+    ghost contents = { label_contents };
 
-    ghost spare = { λ l. drop l.len l.bytes };
+    ghost loan = { λ _. 0 };
 
     fn free(&self) -> usize {
         LABEL_BYTES - self.len

@@ -1,6 +1,7 @@
-// Trays: what bytes are poured into.
+// Trays: what bytes are appended to.
 #![tactic(auto)]
 
+pub mod anytray;
 pub mod buffer;
 pub mod container;
 pub mod label;

@@ -4,30 +4,9 @@ use Rattle.std.specs.List.{concat}
 use Rattle.std.proofs.lemmas.List.Folds.{concat-append}
 use Rattle.std.proofs.lemmas.Bool.{cond-true, cond-false, le-leb, leb-true, eq-eqb, eqb-true, ne_eqb, and_parts, and_from, cases_eq, cases_Bool}
 use Rattle.anystr.specs.Elements.{offset, Boundary, Cut}
-use Rattle.bytesinner.specs.joins.Joins.{on_boundary, can_cut, first_bad}
+use Rattle.anystr.proofs.Boundaries.{boundary_from, boundary_true, offset-within}
+use Rattle.bytesinner.specs.joins.Joins.{can_cut, first_bad}
 use Rattle.anystr.specs.Places.{part}
-
-pub boundary_from : (es : List (List ℕ)) (p : ℕ) → on_boundary es p ≡ true → Boundary es p
-boundary_from [] p h = (0, sym (eqb-true p 0 h))
-boundary_from (e ∷ es) p h = ⊎_elim
-    (λ z. (0, sym z))
-    (λ nz.
-    let t = and_parts _ _ (sym (cond-false (eqb p 0) true (leb (length e) p && on_boundary es (p - length e)) (ne_eqb p 0 nz)) ∙ h) in
-    let le = leb-true (length e) p t.0 in
-    let b = boundary_from es (p - length e) t.1 in
-    (suc b.0, omega (arith, length-append e (concat (take b.0 es)), b.1)))
-    (cases_eq p 0)
-
-pub boundary_true : (es : List (List ℕ)) (p : ℕ) → Boundary es p → on_boundary es p ≡ true
-boundary_true [] p (zero, e) = eq-eqb p 0 (sym e)
-boundary_true [] p (suc k, e) = eq-eqb p 0 (sym e)
-boundary_true (e ∷ es) p (zero, is) = cond-true _ _ _ (eq-eqb p 0 (sym is))
-boundary_true (e ∷ es) p (suc k, is) = ⊎_elim
-    (λ z. cond-true _ _ _ (eq-eqb p 0 z))
-    (λ nz.
-    let l = length-append e (concat (take k es)) in
-    cond-false _ _ _ (ne_eqb p 0 nz) ∙ and_from _ _ (le-leb (length e) p (omega arith)) (boundary_true es (p - length e) (k, omega arith)))
-    (cases_eq p 0)
 
 pub cut_from : (es : List (List ℕ)) (p : ℕ × ℕ) → can_cut es p ≡ true → Cut es p.0 p.1
 cut_from es p h =
@@ -52,12 +31,6 @@ none-bad es at p ps h = ⊎_elim
     (λ t. cut_from es p t)
     (λ f. let e : Some at ≡ None = sym (cond-false _ _ _ f) ∙ h in let z : ◌≡◌ {A = ℕ} 0 1 = cc in absurd (omega arith))
     (cases_Bool (can_cut es p))
-
-pub cut-joined : (k : ℕ) (es : List (List ℕ)) → concat es ≡ concat (take k es) ++ concat (drop k es)
-cut-joined k es = ap concat (sym (take-append-drop k es)) ∙ concat-append (take k es) (drop k es)
-
-pub offset-within : (es : List (List ℕ)) (k : ℕ) → offset es k ≤ length (concat es)
-offset-within es k = omega (arith, ap length (cut-joined k es), length-append (concat (take k es)) (concat (drop k es)))
 
 -- the bytes of a place that can be cut out
 pub part-long : (es : List (List ℕ)) (a e : ℕ) → Cut es a e → length (part (concat es) (a, e)) ≡ e - a

@@ -8,7 +8,7 @@ use Rattle.anystr.specs.Elements.{offset, element_at, Filled, Cut, Part}
 use Rattle.anystr.proofs.Begins.{filled_at, begins, none-begins}
 use Rattle.anystr.proofs.Parts.{concat-part}
 use Rattle.anystr.specs.Places.{part}
-use Rattle.bytesinner.proofs.joins.Places.{offset-within, cut-joined}
+use Rattle.anystr.proofs.Boundaries.{offset-within, cut-joined}
 
 -- an element has a byte at least
 pub count-within : (es : List (List ℕ)) → Filled es → length es ≤ length (concat es)

@@ -10,7 +10,7 @@ use Rattle.searchers.specs.substring.Occurrences.{occurrence, occurrence-is, occ
 use Rattle.cuts.specs.Runs.{In}
 use Rattle.cuts.specs.Splits.{SplitBy}
 use Rattle.cuts.proofs.Splits.{split-rule, rsplit-rule, split-restores, split-on}
-use Rattle.cutters.proofs.Ends.{end_on}
+use Rattle.anystr.proofs.Boundaries.{end_on}
 use Rattle.bytesinner.specs.splits.Separated.{separated, split_of, rsplit_of, OfWritten, SplitFront, SplitBack, Restore, Cuttable}
 
 -- what holds of the pieces holds of the places that are written

@@ -1,18 +1,13 @@
 -- Parts of a text, joined with another between them. Assumes nothing.
 use Rattle.std.specs.Prelude.{◌≡◌, ℕ, suc, ◌+◌, ◌-◌, ◌*◌, ◌<◌, Bool, true, cond, ◌&&◌, List, [], ◌∷◌, map, length, Some, None, Ok, Err, Option, Result, ◌==◌, nat_le, nat_lt, slice_index_or}
 use Rattle.std.specs.List.{concat}
-use Rattle.anystr.specs.Elements.{Cut}
+use Rattle.anystr.specs.Elements.{Cut, on_boundary}
 use Rattle.anystr.specs.Limits.{most_bytes}
 use Rattle.anystr.specs.Places.{part, join_parts}
 
 -- the most places of a join; the code's MAX_PLACES
 abbrev pub most_places : ℕ
 most_places = most_bytes + 1
-
--- whether an element begins at the offset p, or the elements end there
-abbrev pub on_boundary : List (List ℕ) → ℕ → Bool
-on_boundary [] p = p == 0
-on_boundary (e ∷ es) p = cond (p == 0) true (nat_le (length e) p && on_boundary es (p - length e))
 
 -- whether the place runs from a boundary to one at or after it
 abbrev pub can_cut : List (List ℕ) → ℕ × ℕ → Bool

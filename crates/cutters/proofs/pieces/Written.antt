@@ -1,6 +1,6 @@
 -- Pieces that come one after another, and lists that are written from them.
 use Rattle.std.proofs.Common.{◌≡◌, ℕ, ◌+◌, ◌<◌, ◌≤◌, List, [], ◌∷◌, ◌++◌, length, get_or, take, drop, set, Ok, sym, ap, ◌∙◌, subst, arith, length-drop}
-use Rattle.std.proofs.lemmas.List.{drop-drop, take_more, drop_more, take_more_set, drop-set-lt, take_all, map-append, length-take-le}
+use Rattle.std.proofs.lemmas.List.{drop-drop, take_more, drop_more, take_more_set, drop-set-lt, take_all, map-append, length-take-le, drop_all}
 use Rattle.anystr.specs.Places.{Lists, stretch, stretches}
 use Rattle.anystr.specs.declared.place.Place.{Place}
 use Rattle.searchers.specs.Marks.{Span}
@@ -37,6 +37,10 @@ filled_more xs left i q list list' p at is lt f =
 -- no piece is left after i: the first i are all
 pub all_taken : (xs : List Span) (i n : ℕ) → i ≤ n → drop i xs ≡ [] → take i xs ≡ take n xs
 all_taken xs i n le e = let l = ap length e in let z = length-drop i xs in take_all i xs (omega arith) ∙ sym (take_all n xs (omega arith))
+
+-- and none is left further on
+pub none_after : (xs : List Span) (i n : ℕ) → i ≤ n → drop i xs ≡ [] → drop n xs ≡ []
+none_after xs i n le e = let l = ap length e in drop_all n xs (omega (arith, length-drop i xs))
 
 -- a list that has room for every piece
 pub listed : (ps : List Span) (list list' : List Place) (n : ℕ) → n ≡ length ps → length ps ≤ length list → Filled (take (length list) ps) list list' → Lists (Ok ps) list list' (Ok n)

@@ -1,6 +1,6 @@
 -- A source of pieces whose first pieces are passed over. Assumes nothing.
-use Rattle.std.specs.Prelude.{◌≡◌, ℕ, ◌-◌, ◌≤◌, List, [], ◌∷◌, ◌++◌, map, length, drop, Some, None, Option}
-use Rattle.std.specs.Iterator.{Count, at_most, count_map, item_count, Yields, YieldsFirstBy}
+use Rattle.std.specs.Prelude.{◌≡◌, ℕ, ◌-◌, List, [], ◌∷◌, ◌++◌, map, length, drop, Some, None, Option}
+use Rattle.std.specs.Iterator.{Count, at_most, count_map, Yields, YieldsFirstBy}
 use Rattle.std.specs.Iterator.Adapters.{skip_source, skip_count, skip_steps}
 use Rattle.std.specs.declared.iter.Skip.{Skip}
 use Rattle.std.proofs.Common.{sym, ap, ◌∙◌, arith, length-drop, length-append}
@@ -8,6 +8,7 @@ use Rattle.std.proofs.Math.Seq.{drop-append_seam, drop-nil}
 use Rattle.std.proofs.lemmas.List.{length-map, drop_all}
 use Rattle.searchers.specs.Marks.{Span}
 use Rattle.cutters.specs.Calls.{span}
+use Rattle.cutters.specs.pieces.Sources.{CountsDown}
 use Rattle.cutters.specs.declared.piece.Piece.{Piece}
 
 module _ {S : Type 0} (left : S → List Span) where
@@ -15,13 +16,12 @@ module _ {S : Type 0} (left : S → List Span) where
   abbrev pub left_after : Skip S → List Span
   left_after s = drop (skip_count s) (left (skip_source s))
 
-  -- they are no more than were left
-  pub left_after-few : (most : ℕ) (s : Skip S) → length (left (skip_source s)) ≤ most → length (left_after s) ≤ most
-  left_after-few most s few = omega (arith, length-drop (skip_count s) (left (skip_source s)))
-
-  -- no more come than are left
-  pub skip_counts : (remaining : S → Count) (s : Skip S) → remaining (skip_source s) ≡ item_count left (skip_source s) → count_map (λ n. n - skip_count s) (remaining (skip_source s)) ≡ item_count left_after s
-  skip_counts remaining s e = ap (count_map (λ n. n - skip_count s)) e ∙ ap at_most (sym (length-drop (skip_count s) (left (skip_source s))))
+  -- no more come than are left, and these are no more than were left before
+  pub skip_counts : (remaining : S → Count) (s : Skip S) → CountsDown (remaining (skip_source s)) (left (skip_source s)) → CountsDown (count_map (λ n. n - skip_count s) (remaining (skip_source s))) (left_after s)
+  skip_counts remaining s c = record {
+    all = ap (count_map (λ n. n - skip_count s)) c.all ∙ ap at_most (sym (length-drop (skip_count s) (left (skip_source s))));
+    few = omega (arith, c.few, length-drop (skip_count s) (left (skip_source s)));
+  }
 
   module _ (steps : S → Option Piece → S → Type 0) (gives : (s : S) (r : Option Piece) (t : S) → steps s r t → YieldsFirstBy span left s r t) where
     -- what came, and what is left after it, was left before

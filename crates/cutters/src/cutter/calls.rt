@@ -2,10 +2,11 @@
 ghost use Rattle.std.specs.Prelude.{◌≡◌, ◌-◌, ◌≤◌, true, false, cond, [], length, take, drop, Some};
 ghost use Rattle.std.specs.List.{concat};
 ghost use Rattle.anystr.specs.Limits.{most_bytes};
-ghost use Rattle.trays.specs.Trays.{Grown};
-ghost use Rattle.cuts.specs.Cuts.{opened, at};
-ghost use Rattle.cuts.specs.Runs.{RunsLaw, needed, poured_out};
-ghost use Rattle.cutters.specs.Calls.{sheet, state, span, SameSheet, Placed, PieceOn, Nexts, Rests, Skips, Pours};
+ghost use Rattle.trays.specs.Trays.{gained};
+ghost use Rattle.cuts.specs.Cuts.{at, at_opening, poured_out, size};
+ghost use Rattle.cuts.specs.Runs.{RunsLaw};
+ghost use Rattle.cutters.specs.Calls.{opening, state, span, poured_by, IsOn, SameOpening, PieceOn};
+ghost use Rattle.cutters.specs.Calls.{Nexts, Rests, Skips, Pours};
 
 use super::Cutter;
 use crate::bound::fewer;
@@ -26,7 +27,7 @@ fn stretch(bytes: &[u8], start: usize, end: usize) -> &[u8]
 
 // The bytes that come after a piece: those of `to`, and none after the last piece.
 fn gap_after<S: AnyStr>(progress: Progress, to: &S) -> &[u8]
-    ensures { result.now ≡ cond progress.spent [] (concat (S.AnyStr.elements to.now)) }
+    ensures { result.now ≡ cond progress.spent [] (concat (S.elements to.now)) }
 {
     if progress.spent { &[] } else { to.as_bytes() }
 }
@@ -34,19 +35,20 @@ fn gap_after<S: AnyStr>(progress: Progress, to: &S) -> &[u8]
 // Appends bytes that fit.
 fn append<T: AnyStrContainer>(bytes: &[u8], tray: &mut T)
     requires few { length bytes.now ≤ most_bytes }
-    requires fits { length bytes.now ≤ length (T.AnyStrContainer.spare tray.old) }
-    ensures { Grown T.AnyStrContainer.held T.AnyStrContainer.spare bytes.now tray.old tray.new }
+    requires fits { length bytes.now ≤ length (T.contents tray.old).spare }
+    ensures gained { T.contents tray.new ≡ gained (T.contents tray.old) bytes.now }
+    ensures same_loan { T.loan tray.new ≡ T.loan tray.old }
 {
     let _ = tray.push_str(&Bytes::new(bytes));
 }
 
 impl<S: AnyStr, F: Searcher<S>> Cutter<S, F> {
-    // A cutter on the whole text. A negative bound is no bound.
+    /// A cutter on the whole text, at offset 0, with no cut made. `bound` is the most cuts that it makes; a negative one
+    /// is no bound.
     pub fn open(text: S, searcher: F, bound: i64) -> Cutter<S, F>
-        ensures on { (result.text ≡ text) × (result.searcher ≡ searcher) × (result.bound ≡ bound) }
-        ensures state { state result ≡ opened }
-        ensures law { RunsLaw (sheet F.Searcher.marks S.AnyStr.elements result) }
-        ensures cut { Placed S.AnyStr.elements result }
+        ensures on { IsOn text searcher bound result }
+        ensures state { state result ≡ at_opening }
+        ensures law { RunsLaw (opening result) }
     {
         Cutter {
             text,
@@ -56,10 +58,10 @@ impl<S: AnyStr, F: Searcher<S>> Cutter<S, F> {
         }
     }
 
-    // The rest: the text from the place on.
+    /// The rest: the text from the place on.
     pub fn rest(&self) -> Piece
-        ensures step { Rests F.Searcher.marks S.AnyStr.elements self.now result }
-        ensures cut { Placed S.AnyStr.elements self.now → PieceOn (S.AnyStr.elements self.now.text) (Some result) }
+        ensures step { Rests self.now result }
+        ensures cut { PieceOn self.now (Some result) }
     {
         Piece {
             start: self.progress.place,
@@ -69,9 +71,10 @@ impl<S: AnyStr, F: Searcher<S>> Cutter<S, F> {
 
     // The whole rest, as the last piece.
     fn last(&mut self) -> Piece
-        ensures value { span result ≡ (self.old.progress.place, length (concat (S.AnyStr.elements self.old.text))) }
-        ensures after { state self.new ≡ at (length (concat (S.AnyStr.elements self.old.text))) self.old.progress.made true }
-        ensures same { SameSheet self.old self.new }
+        ensures value { span result ≡ ((state self.old).place, size (opening self.old)) }
+        ensures after { state self.new ≡ at (size (opening self.old)) (state self.old).made true }
+        ensures same { SameOpening self.old self.new }
+        ensures cut { PieceOn self.old (Some result) }
     {
         let piece = self.rest();
         self.progress = Progress {
@@ -82,11 +85,12 @@ impl<S: AnyStr, F: Searcher<S>> Cutter<S, F> {
         piece
     }
 
-    // The next piece; none where the cutter is spent.
+    /// The next piece, which ends at the first mark from the place on; the whole rest where there is none or the bound is
+    /// used up; none where the cutter is spent.
     pub fn next(&mut self) -> Option<Piece>
-        ensures step { Nexts F.Searcher.marks S.AnyStr.elements self.old result self.new }
-        ensures same { SameSheet self.old self.new }
-        ensures cut { Placed S.AnyStr.elements self.old → PieceOn (S.AnyStr.elements self.old.text) result × Placed S.AnyStr.elements self.new }
+        ensures step { Nexts self.old result self.new }
+        ensures same { SameOpening self.old self.new }
+        ensures cut { PieceOn self.old result }
     {
         if self.progress.spent {
             return None;
@@ -110,11 +114,11 @@ impl<S: AnyStr, F: Searcher<S>> Cutter<S, F> {
         })
     }
 
-    // Passes over `n` pieces; refused, with the number of pieces left, where these are fewer.
+    /// Passes over `n` pieces, as so many nexts do. Where fewer are left it is refused (9, with their number), and the
+    /// cutter is as it was.
     pub fn skip(&mut self, n: u64) -> Result<(), Refusal>
-        ensures step { Skips F.Searcher.marks S.AnyStr.elements self.old n result self.new }
-        ensures same { SameSheet self.old self.new }
-        ensures cut { Placed S.AnyStr.elements self.old → Placed S.AnyStr.elements self.new }
+        ensures step { Skips self.old n result self.new }
+        ensures same { SameOpening self.old self.new }
     {
         let before = self.progress;
         for left in 0..n {
@@ -128,10 +132,10 @@ impl<S: AnyStr, F: Searcher<S>> Cutter<S, F> {
 
     // The bytes that the rest takes with `to` in place of each mark still to be cut; the cutter is as it was.
     fn measure(&mut self, to: &S) -> u64
-        requires { self.old.progress.spent ≡ false }
-        ensures value { result ≡ length (needed (sheet F.Searcher.marks S.AnyStr.elements self.old) (concat (S.AnyStr.elements to.now)) (state self.old)) }
+        requires { (state self.old).spent ≡ false }
+        ensures value { result ≡ length (poured_by self.old to.now) }
         ensures after { state self.new ≡ state self.old }
-        ensures same { SameSheet self.old self.new }
+        ensures same { SameOpening self.old self.new }
     {
         let before = self.progress;
         let text = self.text;
@@ -147,11 +151,12 @@ impl<S: AnyStr, F: Searcher<S>> Cutter<S, F> {
 
     // Appends the rest, which fits, to the tray with `to` in place of each mark still to be cut.
     fn pour_pieces<T: AnyStrContainer>(&mut self, to: &S, tray: &mut T)
-        requires unspent { self.old.progress.spent ≡ false }
-        requires fits { length (needed (sheet F.Searcher.marks S.AnyStr.elements self.old) (concat (S.AnyStr.elements to.now)) (state self.old)) ≤ length (T.AnyStrContainer.spare tray.old) }
-        ensures grown { Grown T.AnyStrContainer.held T.AnyStrContainer.spare (needed (sheet F.Searcher.marks S.AnyStr.elements self.old) (concat (S.AnyStr.elements to.now)) (state self.old)) tray.old tray.new }
-        ensures after { state self.new ≡ poured_out (sheet F.Searcher.marks S.AnyStr.elements self.old) (state self.old) }
-        ensures same { SameSheet self.old self.new }
+        requires unspent { (state self.old).spent ≡ false }
+        requires fits { length (poured_by self.old to.now) ≤ length (T.contents tray.old).spare }
+        ensures gained { T.contents tray.new ≡ gained (T.contents tray.old) (poured_by self.old to.now) }
+        ensures same_loan { T.loan tray.new ≡ T.loan tray.old }
+        ensures after { state self.new ≡ poured_out (opening self.old) (state self.old) }
+        ensures same { SameOpening self.old self.new }
     {
         let text = self.text;
         let bytes = text.as_bytes();
@@ -161,12 +166,13 @@ impl<S: AnyStr, F: Searcher<S>> Cutter<S, F> {
         }
     }
 
-    // Appends the rest to the tray with `to` in place of each mark still to be cut; the cutter is spent.
-    // Refused, and nothing changes, where it was spent or the tray has too few free bytes.
+    /// Appends the rest to the tray, with `to` in place of each mark that is still to be cut; the cutter is then spent.
+    /// Refused on a spent cutter (8), and where the tray has too few free bytes (7, with the bytes needed); cutter and
+    /// tray are then as they were.
     pub fn pour<T: AnyStrContainer>(&mut self, to: &S, tray: &mut T) -> Result<(), Refusal>
-        ensures step { Pours F.Searcher.marks S.AnyStr.elements T.AnyStrContainer.held T.AnyStrContainer.spare self.old to.now tray.old result self.new tray.new }
-        ensures same { SameSheet self.old self.new }
-        ensures cut { Placed S.AnyStr.elements self.old → Placed S.AnyStr.elements self.new }
+        ensures step { Pours T.contents self.old to.now tray.old result self.new tray.new }
+        ensures same { SameOpening self.old self.new }
+        ensures same_loan { T.loan tray.new ≡ T.loan tray.old }
     {
         if self.progress.spent {
             return Err(Refusal::Spent);

@@ -77,7 +77,7 @@ impl AsciiPattern for AsciiSet {
 impl<S: AsciiStr> Searcher<S> for AsciiSet {
     ghost marks = { λ f es. single (member f.set.has) (concat es) };
 
-    ghost lawful = { λ f es. single-lawful (member f.set.has) (concat es) };
+    ghost lawful = { λ f text. single-lawful (member f.set.has) (concat (S.AnyStr.elements text)) };
 
     fn find(&self, text: &S, from: usize) -> Option<Mark> {
         first_ascii_mark(self, text, from)

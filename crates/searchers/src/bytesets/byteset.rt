@@ -74,7 +74,7 @@ impl Pattern for ByteSet {
 impl<'a> Searcher<Bytes<'a>> for ByteSet {
     ghost marks = { λ f es. single (member f.has) (concat es) };
 
-    ghost lawful = { λ f es. single-lawful (member f.has) (concat es) };
+    ghost lawful = { λ f text. single-lawful (member f.has) (concat (⟦<Bytes<'a> as AnyStr>⟧.elements text)) };
 
     fn find(&self, text: &Bytes<'a>, from: usize) -> Option<Mark> {
         first_mark(self, text.as_bytes(), from)

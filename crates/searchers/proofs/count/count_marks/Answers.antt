@@ -6,7 +6,7 @@ pub loop-mark-preserved : goal.loop-mark-preserved
 loop-mark-preserved g c =
     let es = g.S.AnyStr.elements c.args.text.now in
     let found = c.in-Some.ensures.value in
-    let law = g.F.Searcher.lawful c.args.searcher.now es in
+    let law = g.met.F.Searcher.lawful c.args.searcher.now c.args.text.now in
     let long = law.nonempty _ _ found.is in
     let ge = found.after in (
       omega arith,

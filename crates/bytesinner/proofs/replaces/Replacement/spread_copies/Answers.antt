@@ -3,10 +3,9 @@ use Rattle.std.specs.List.{concat}
 use Rattle.anystr.specs.Elements.{Cut, offset}
 use Rattle.anystr.specs.Places.{part}
 use Rattle.anystr.proofs.Parts.{concat-part}
-use Rattle.cutters.proofs.Ends.{end_on}
 use Rattle.cutters.proofs.Pouring.{Pouring}
 use Rattle.bytesinner.proofs.joins.Joining.{took_next}
-use Rattle.bytesinner.proofs.joins.Places.{offset-within}
+use Rattle.anystr.proofs.Boundaries.{end_on, offset-within}
 use Rattle.bytesinner.specs.replaces.Replacements.{copies_spread}
 use Rattle.bytesinner.proofs.replaces.Spreading.{spread-copies, copies-few}
 use Rattle.bytesinner.proofs.replaces.Turning.{to-come, all_poured, left, copy-ahead, last-copy, no-copy}

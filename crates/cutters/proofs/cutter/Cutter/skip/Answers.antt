@@ -1,7 +1,8 @@
 use Rattle.std.proofs.Common.{◌≡◌, ℕ, sym, refl, ap, ◌∙◌, add-one, arith}
 use Rattle.cuts.specs.Cuts.{next_of, nexts}
 use Rattle.cuts.proofs.Left.{nexts-more, gave}
-use Rattle.cutters.specs.Calls.{sheet, state, span}
+use Rattle.cuts.proofs.Skips.{skip-passes}
+use Rattle.cutters.specs.Calls.{opening, state, span}
 use Rattle.cutters.proofs.Same.{same_again, step_on}
 use Rattle.cutters.proofs.cutter.Cutter.skip.Goals as goal
 
@@ -12,22 +13,21 @@ loop-left-preserved g c =
     let after = c.next.new.self in
     let n : ℕ = c.loop-left.left in
     let inv = c.loop-left.invariant in
-    let on = sheet g.F.Searcher.marks g.S.AnyStr.elements k in
-    let law = g.F.Searcher.lawful k.searcher (g.S.AnyStr.elements k.text) in
+    let on = opening k in
+    let law = g.met.F.Searcher.lawful k.searcher k.text in
     let e = c.in-Some.ensures in
-    let st = step_on g.F.Searcher.marks g.S.AnyStr.elements k here after (span c.in-Some.field-0) inv.2 e.step in
+    let st = step_on k here after (span c.in-Some.field-0) inv.2 e.step in
     let one = (gave on law here.progress.place here.progress.made here.progress.spent _ (state after) st).left in (
       st.1 ∙ ((λ i. (next_of on (inv.0 i)).1) ∙ (sym (nexts-more on n (state k)) ∙ (λ i. nexts on (sym (add-one n) i) (state k)))),
       omega (arith, inv.1),
       same_again k here after inv.2 e.same,
-      λ b. (e.cut (inv.3 b)).1,
     )
 
 pub loop-left-init : goal.loop-left-init
-loop-left-init g c = (refl, omega arith, record { text = refl; searcher = refl; bound = refl }, λ b. b)
+loop-left-init g c = (refl, omega arith, record { text = refl; searcher = refl; bound = refl })
 
 pub returns-clause-step : goal.returns-clause-step
 returns-clause-step g c =
     let k = c.args.self.now in
     let all : c.loop-left.left ≡ c.args.n = omega arith in
-    (omega (arith, all), c.loop-left.invariant.0 ∙ ap (λ n. nexts (sheet g.F.Searcher.marks g.S.AnyStr.elements k) n (state k)) all)
+    (skip-passes (opening k) c.args.n (state k) (omega (arith, all)), c.loop-left.invariant.0 ∙ ap (λ n. nexts (opening k) n (state k)) all)

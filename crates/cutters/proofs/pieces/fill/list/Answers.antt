@@ -16,4 +16,4 @@ returns g c =
     let room = c.in_ok-n.ensures in
     let is : c.in_ok-n.n ≡ c.count.result = grind arith in
     let fits : length (g.P.Pieces.left c.args.source) ≤ length c.args.places.now = grind arith in
-    listed (g.P.Pieces.left c.args.source) c.args.places.now c.fill.new.places c.in_ok-n.n (is ∙ n) fits c.fill.ensures
+    listed (g.P.Pieces.left c.args.source) c.args.places.now c.fill.new.places c.in_ok-n.n (is ∙ n) fits c.fill.ensures.written

@@ -1,23 +1,10 @@
-use Rattle.std.proofs.Common.{ℕ, Ok, Err, sym, ◌∙◌, arith, length-drop}
-use Rattle.trays.specs.Trays.{label_bytes}
-use Rattle.trays.proofs.Writes.{clear}
-use Rattle.std.proofs.lemmas.Result.{err_from_is_err_and}
-use Rattle.trays.proofs.Pushes.{pushed_as}
+use Rattle.std.proofs.Common.{sym}
+use Rattle.trays.proofs.LabelWrites.{label_kept, label_filled}
 use Rattle.trays.proofs.label.LabelAnyStrContainer.push_str.Goals as goal
 
 pub invariant_of-self-2 : goal.invariant_of-self-2
-invariant_of-self-2 g c =
-    let l = c.args.self.now in
-    let p = c.in_ok-self.ensures in
-    record {
-      fits = omega (arith, p, length-drop l.len l.bytes);
-      clear = p.1.2 ∙ clear l.bytes label_bytes l.len _ _ l.clear p.0;
-    }
+invariant_of-self-2 g c = label_kept c.self.inside.bytes c.as_bytes.result.now c.put.new.bytes c.self.inside.len c.in_ok-self-inside.field-0 c.self.told c.self.invariant.1 c.self.invariant.0 c.in_ok-self-inside.ensures
 
-pub returns-in_err-self : goal.returns-in_err-self
-returns-in_err-self g c =
-    let p = err_from_is_err_and c.from_residual.result c.from_residual.ensures.1 in
-    rw (p.1, p.2) (pushed_as {X = ℕ} _ _ _ _ _ _ (Err c.in_err-self.field-0.0) c.in_err-self.ensures.1 (search sym depth 1))
-
-pub returns : goal.returns
-returns g c = pushed_as _ _ _ _ _ _ (Ok c.in_ok-self.field-0) c.in_ok-self.ensures.1 (search sym depth 1)
+pub returns-clause-fills : goal.returns-clause-fills
+returns-clause-fills g c =
+    rw (sym c.self.view_is, sym c.as_bytes.ensures) (label_filled c.self.inside.bytes c.as_bytes.result.now c.put.new.bytes c.self.inside.len c.in_ok-self-inside.field-0 c.self.told c.self.invariant.1 c.self.invariant.0 c.in_ok-self-inside.ensures)
