@@ -7,7 +7,7 @@ use Rattle.anystr.specs.Limits.{most_bytes}
 use Rattle.searchers.specs.substring.Occurrences.{occurrence, occurrence-lawful}
 use Rattle.cuts.specs.Cuts.{all_marks, cut_from, poured}
 use Rattle.bytesinner.specs.replaces.Replaces.{most_result, spread, copies, sheet_of, cut_out, replaced, if_short, ReplaceLaw}
-use Rattle.bytesinner.proofs.replaces.Spreading.{spread-copies, spread-size, spread_none, copies-few}
+use Rattle.bytesinner.proofs.replaces.Spreading.{spread-with_copies, length-with_copies, spread_none, copies-few}
 use Rattle.bytesinner.proofs.replaces.Cutting.{no_cuts, poured-joined, poured-size}
 use Rattle.bytesinner.proofs.replaces.Walking.{count-within}
 
@@ -19,10 +19,7 @@ at-elements es from to bound none = cond-true _ _ _ (eq-eqb (length from) 0 none
 
 -- the text with its copies
 pub spread-long : (es : List (List ℕ)) (to : List ℕ) (bound : ℤ) → length (spread to bound 0 es) ≡ length (concat es) + copies (length es) bound * length to
-spread-long es to bound =
-    let n = copies (length es) bound in
-    let all : n - 0 ≡ n = omega arith in
-    ap length (spread-copies to bound es) ∙ (spread-size to n es 0 (omega (arith, copies-few (length es) bound)) ∙ ap (λ k. length (concat es) + k * length to) all)
+spread-long es to bound = ap length (spread-with_copies to bound es) ∙ length-with_copies to (copies (length es) bound) es (copies-few (length es) bound)
 
 pub spread-within : (es : List (List ℕ)) (to : List ℕ) (bound : ℤ) → Filled es → length (spread to bound 0 es) ≤ length (concat es) + suc (length (concat es)) * length to
 spread-within es to bound filled =
@@ -56,6 +53,7 @@ none-replaced es from to = ⊎_elim
 pub replace-law : (es : List (List ℕ)) (from to : List ℕ) (bound : ℤ) → Filled es → ReplaceLaw es from to bound
 replace-law es from to bound filled = record {
   split = λ some. at-marks es from to bound (λ z. omega arith) ∙ poured-joined (concat es) to 0 (cut_from (sheet_of es from bound) 0 0);
+  placed = λ none. at-elements es from to bound none ∙ spread-with_copies to bound es;
   added = λ none. ap length (at-elements es from to bound none) ∙ spread-long es to bound;
   none = λ z. ap (replaced es from to) z ∙ none-replaced es from to;
   size = ⊎_elim
