@@ -10,7 +10,7 @@ use Rattle.cuts.proofs.Reach.{length-between}
 
 module _ (sheet : Sheet) (law : Lawful sheet.marks (size sheet)) where
   -- each cut takes a byte at least
-  cuts-within : (ms : List Span) (made place : ℕ) → place ≤ size sheet → cut_from sheet made place ≡ ms → place + length ms ≤ size sheet
+  pub cuts-within : (ms : List Span) (made place : ℕ) → place ≤ size sheet → cut_from sheet made place ≡ ms → place + length ms ≤ size sheet
   cuts-within [] made place within e = omega arith
   cuts-within (m ∷ ms) made place within e =
       let f = first sheet law made place m ms e in
@@ -30,7 +30,8 @@ module _ (sheet : Sheet) (law : Lawful sheet.marks (size sheet)) where
       by true = omega arith
       by false = unspent
 
-  poured-within : (to : List ℕ) (ms : List Span) (made place : ℕ) → place ≤ size sheet → cut_from sheet made place ≡ ms
+  -- what each cut takes, and what comes in its place
+  pub poured-within : (to : List ℕ) (ms : List Span) (made place : ℕ) → place ≤ size sheet → cut_from sheet made place ≡ ms
       → length (poured sheet.bytes to place ms) ≤ (size sheet - place) + length ms * length to
   poured-within to [] made place within e = omega (arith, length-drop place sheet.bytes, zero-mul (length to))
   poured-within to (m ∷ ms) made place within e =

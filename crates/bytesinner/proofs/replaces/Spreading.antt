@@ -1,5 +1,5 @@
 -- Copies spread among elements.
-use Rattle.std.proofs.Common.{◌≡◌, ℕ, zero, suc, ◌+◌, ◌-◌, ◌*◌, ◌<◌, ◌≤◌, min, Bool, true, false, cond, if◌then◌else◌, List, [], ◌∷◌, ◌++◌, length, ℤ, pos, negsuc, sym, refl, ap, ◌∙◌, ⊎_elim, suc-mul, zero-mul, arith, append-nil, append_assoc, length-append}
+use Rattle.std.proofs.Common.{◌≡◌, ℕ, zero, suc, ◌+◌, ◌*◌, ◌<◌, ◌≤◌, min, Bool, true, false, cond, if◌then◌else◌, List, [], ◌∷◌, ◌++◌, length, ℤ, pos, negsuc, sym, refl, ap, ◌∙◌, ⊎_elim, suc-mul, arith, append-nil, append_assoc, length-append}
 use Rattle.std.proofs.Math.Dec.{leb-suc-suc}
 use Rattle.std.specs.List.{concat}
 use Rattle.std.proofs.lemmas.Bool.{lt-ltb, le-ltb, cases_lt}
@@ -18,15 +18,20 @@ copies-fewer n (pos b) j h = ⊎_elim
 copies-fewer n (negsuc b) j h = sym (lt-ltb j (suc n) (omega arith))
 
 -- bounds that allow the same copies
-same_spread : (to : List ℕ) (a b : ℤ) (es : List (List ℕ)) (made : ℕ) → ((j : ℕ) → j ≤ made + length es → fewer j a ≡ fewer j b) → spread to a made es ≡ spread to b made es
+same_spread : (to : List ℕ) (a b : ℤ) (es : List (List ℕ)) (made : ℕ)
+    → ((j : ℕ) → j ≤ made + length es → fewer j a ≡ fewer j b) → spread to a made es ≡ spread to b made es
 same_spread to a b [] made same = ap (λ t. cond t to []) (same made (omega arith))
 same_spread to a b (e ∷ es) made same =
     let rest = same_spread to a b es (suc made) (λ j h. same j (omega arith)) in
-    ap (λ t. cond t to [] ++ (e ++ spread to a (suc made) es)) (same made (omega arith)) ∙ ap (λ r. cond (fewer made b) to [] ++ (e ++ r)) rest
+    ap (λ t. cond t to [] ++ (e ++ spread to a (suc made) es)) (same made (omega arith))
+    ∙ ap (λ r. cond (fewer made b) to [] ++ (e ++ r)) rest
 
 -- a bound allows as many copies as there are
-pub spread-copies : (to : List ℕ) (bound : ℤ) (es : List (List ℕ)) → spread to bound 0 es ≡ spread to (pos (copies (length es) bound)) 0 es
-spread-copies to bound es = same_spread to bound (pos (copies (length es) bound)) es 0 (λ j h. copies-fewer (length es) bound j (omega arith))
+pub spread-copies : (to : List ℕ) (bound : ℤ) (es : List (List ℕ))
+    → spread to bound 0 es ≡ spread to (pos (copies (length es) bound)) 0 es
+spread-copies to bound es =
+    let n = length es in
+    same_spread to bound (pos (copies n bound)) es 0 (λ j h. copies-fewer n bound j (omega arith))
 
 pub copies-few : (n : ℕ) (bound : ℤ) → copies n bound ≤ suc n
 copies-few n (pos b) = omega arith
@@ -36,10 +41,13 @@ module _ (to : List ℕ) (count : ℕ) where
   -- no copy is left
   pub spread_none : (es : List (List ℕ)) (made : ℕ) → count ≤ made → spread to (pos count) made es ≡ concat es
   spread_none [] made past = ap (λ t. cond t to []) (le-ltb made count past)
-  spread_none (e ∷ es) made past = ap (λ t. cond t to [] ++ (e ++ spread to (pos count) (suc made) es)) (le-ltb made count past) ∙ ap (λ r. e ++ r) (spread_none es (suc made) (omega arith))
+  spread_none (e ∷ es) made past =
+      ap (λ t. cond t to [] ++ (e ++ spread to (pos count) (suc made) es)) (le-ltb made count past)
+      ∙ ap (λ r. e ++ r) (spread_none es (suc made) (omega arith))
 
   -- one copy more, and the element behind it
-  pub spread-more : (e : List ℕ) (es : List (List ℕ)) (made : ℕ) → made < count → spread to (pos count) made (e ∷ es) ≡ to ++ (e ++ spread to (pos count) (suc made) es)
+  pub spread-more : (e : List ℕ) (es : List (List ℕ)) (made : ℕ) → made < count
+      → spread to (pos count) made (e ∷ es) ≡ to ++ (e ++ spread to (pos count) (suc made) es)
   spread-more e es made lt = ap (λ t. cond t to [] ++ (e ++ spread to (pos count) (suc made) es)) (lt-ltb made count lt)
 
   -- the copy at the end
@@ -47,6 +55,7 @@ module _ (to : List ℕ) (count : ℕ) where
   spread-last made lt = ap (λ t. cond t to []) (lt-ltb made count lt)
 
 module _ (to : List ℕ) where
+  -- no copy, the copy at the end, one copy more
   with_copies-none : (es : List (List ℕ)) → with_copies to 0 es ≡ concat es
   with_copies-none es =
       ap (λ b. concat es ++ (if b then to else [])) (le-ltb (length es) 0 (omega arith)) ∙ append-nil (concat es)
@@ -77,16 +86,18 @@ module _ (to : List ℕ) where
   -- what the copies add
   pub length-with_copies : (k : ℕ) (es : List (List ℕ)) → k ≤ suc (length es)
       → length (with_copies to k es) ≡ length (concat es) + k * length to
-  length-with_copies zero es few = omega (arith, ap length (with_copies-none es), zero-mul (length to))
-  length-with_copies (suc k) [] few =
-      let none : k ≡ 0 = omega arith in
-      omega (arith, ap length (with_copies-last k), ap (λ n. suc n * length to) none, suc-mul 0 (length to), zero-mul (length to))
+  length-with_copies zero es few = omega (arith, ap length (with_copies-none es))
+  length-with_copies (suc zero) [] few = omega (arith, ap length (with_copies-last 0))
+  length-with_copies (suc (suc k)) [] few = absurd (omega arith)
   length-with_copies (suc k) (e ∷ es) few =
       let more = with_copies to k es in
       let rest = length-with_copies k es (omega arith) in
-      omega (arith, ap length (with_copies-more k e es), length-append to (e ++ more), length-append e more, length-append e (concat es), suc-mul k (length to))
+      let long = ap length (with_copies-more k e es) ∙ length-append to (e ++ more) in
+      omega (arith, long, length-append e more, length-append e (concat es), suc-mul k (length to))
 
 -- an empty copy adds nothing
 pub spread-empty : (bound : ℤ) (es : List (List ℕ)) (made : ℕ) → spread [] bound made es ≡ concat es
 spread-empty bound [] made = nothing (fewer made bound)
-spread-empty bound (e ∷ es) made = ap (λ t. t ++ (e ++ spread [] bound (suc made) es)) (nothing (fewer made bound)) ∙ ap (λ r. e ++ r) (spread-empty bound es (suc made))
+spread-empty bound (e ∷ es) made =
+    ap (λ t. t ++ (e ++ spread [] bound (suc made) es)) (nothing (fewer made bound))
+    ∙ ap (λ r. e ++ r) (spread-empty bound es (suc made))
