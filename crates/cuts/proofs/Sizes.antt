@@ -10,7 +10,7 @@ use Rattle.cuts.proofs.Reach.{length-between}
 
 module _ (on : Opening) (law : Lawful on.marks (size on)) where
   -- each cut takes a byte at least
-  cuts-within : (ms : List Span) (made place : ℕ) → place ≤ size on → cut_from on made place ≡ ms → place + length ms ≤ size on
+  pub cuts-within : (ms : List Span) (made place : ℕ) → place ≤ size on → cut_from on made place ≡ ms → place + length ms ≤ size on
   cuts-within [] made place within e = omega arith
   cuts-within (m ∷ ms) made place within e =
       let f = first on law made place m ms e in
@@ -30,7 +30,8 @@ module _ (on : Opening) (law : Lawful on.marks (size on)) where
       by true = omega arith
       by false = unspent
 
-  poured-within : (to : List ℕ) (ms : List Span) (made place : ℕ) → place ≤ size on → cut_from on made place ≡ ms
+  -- what each cut takes, and what comes in its place
+  pub poured-within : (to : List ℕ) (ms : List Span) (made place : ℕ) → place ≤ size on → cut_from on made place ≡ ms
       → length (poured on.bytes to place ms) ≤ (size on - place) + length ms * length to
   poured-within to [] made place within e = omega (arith, length-drop place on.bytes, zero-mul (length to))
   poured-within to (m ∷ ms) made place within e =

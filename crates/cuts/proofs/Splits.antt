@@ -170,7 +170,8 @@ then-rest bytes a b le =
     ap (λ (r : List ℕ). take (b - a) (drop a bytes) ++ r) (ap (λ (n : ℕ). drop n bytes) (sym sum) ∙ sym (drop-drop (b - a) a bytes))
     ∙ take-append-drop (b - a) (drop a bytes)
 
-with_more : (sep bytes x : List ℕ) (p len : ℕ) (ms : List Span)
+-- a piece ahead of others
+pub with_more : (sep bytes x : List ℕ) (p len : ℕ) (ms : List Span)
     → with_between sep (x ∷ map (part bytes) (between p len ms)) ≡ x ++ (sep ++ with_between sep (map (part bytes) (between p len ms)))
 with_more sep bytes x p len [] = refl
 with_more sep bytes x p len (m ∷ ms) = refl

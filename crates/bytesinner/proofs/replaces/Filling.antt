@@ -21,7 +21,7 @@ use Rattle.bytesinner.specs.replaces.Replaces.{most_result, bound_of, spread, co
 use Rattle.bytesinner.proofs.replaces.Law.{spread-long, spread-within, cut-within, short, is-short}
 
 -- a pour from a cutter just opened
-pub pour-pushed : {S F C X Tray : Type 0} {s : AnyStr.Ghosts S C} {f : Searcher.Ghosts F S C} (marks : F → List (List ℕ) → Marks) (elements : S → List (List ℕ)) (held spare : Tray → List ℕ) (c : Cutter S F C s f) (to : S) (tray : Tray) (r : Result X Refusal) (d : Cutter S F C s f) (tray' : Tray)
+pour-pushed : {S F C X Tray : Type 0} {s : AnyStr.Ghosts S C} {f : Searcher.Ghosts F S C} (marks : F → List (List ℕ) → Marks) (elements : S → List (List ℕ)) (held spare : Tray → List ℕ) (c : Cutter S F C s f) (to : S) (tray : Tray) (r : Result X Refusal) (d : Cutter S F C s f) (tray' : Tray)
     → state c ≡ opened → Pours marks elements held spare c to tray r d tray'
     → Pushed (poured (concat (elements c.text)) (concat (elements to)) 0 (cut_from (sheet marks elements c) 0 0)) (held tray) (spare tray) (held tray') (spare tray') r
 pour-pushed marks elements held spare c to tray (Ok x) d tray' new p =

@@ -1,9 +1,10 @@
 -- Copies spread among elements.
-use Rattle.std.proofs.Common.{◌≡◌, ℕ, suc, ◌+◌, ◌-◌, ◌*◌, ◌<◌, ◌≤◌, min, Bool, true, false, cond, List, [], ◌∷◌, ◌++◌, length, ℤ, pos, negsuc, sym, refl, ap, ◌∙◌, ⊎_elim, suc-mul, zero-mul, arith, length-append}
+use Rattle.std.proofs.Common.{◌≡◌, ℕ, zero, suc, ◌+◌, ◌*◌, ◌<◌, ◌≤◌, min, Bool, true, false, cond, if◌then◌else◌, List, [], ◌∷◌, ◌++◌, length, ℤ, pos, negsuc, sym, refl, ap, ◌∙◌, ⊎_elim, suc-mul, arith, append-nil, append_assoc, length-append}
+use Rattle.std.proofs.Math.Dec.{leb-suc-suc}
 use Rattle.std.specs.List.{concat}
 use Rattle.std.proofs.lemmas.Bool.{lt-ltb, le-ltb, cases_lt}
 use Rattle.cuts.specs.Cuts.{fewer}
-use Rattle.bytesinner.specs.replaces.Replaces.{spread, copies}
+use Rattle.bytesinner.specs.replaces.Replaces.{spread, copies, with_copies}
 
 nothing : (b : Bool) → ◌≡◌ {A = List ℕ} (cond b [] []) []
 nothing true = refl
@@ -17,15 +18,20 @@ copies-fewer n (pos b) j h = ⊎_elim
 copies-fewer n (negsuc b) j h = sym (lt-ltb j (suc n) (omega arith))
 
 -- bounds that allow the same copies
-same_spread : (to : List ℕ) (a b : ℤ) (es : List (List ℕ)) (made : ℕ) → ((j : ℕ) → j ≤ made + length es → fewer j a ≡ fewer j b) → spread to a made es ≡ spread to b made es
+same_spread : (to : List ℕ) (a b : ℤ) (es : List (List ℕ)) (made : ℕ)
+    → ((j : ℕ) → j ≤ made + length es → fewer j a ≡ fewer j b) → spread to a made es ≡ spread to b made es
 same_spread to a b [] made same = ap (λ t. cond t to []) (same made (omega arith))
 same_spread to a b (e ∷ es) made same =
     let rest = same_spread to a b es (suc made) (λ j h. same j (omega arith)) in
-    ap (λ t. cond t to [] ++ (e ++ spread to a (suc made) es)) (same made (omega arith)) ∙ ap (λ r. cond (fewer made b) to [] ++ (e ++ r)) rest
+    ap (λ t. cond t to [] ++ (e ++ spread to a (suc made) es)) (same made (omega arith))
+    ∙ ap (λ r. cond (fewer made b) to [] ++ (e ++ r)) rest
 
 -- a bound allows as many copies as there are
-pub spread-copies : (to : List ℕ) (bound : ℤ) (es : List (List ℕ)) → spread to bound 0 es ≡ spread to (pos (copies (length es) bound)) 0 es
-spread-copies to bound es = same_spread to bound (pos (copies (length es) bound)) es 0 (λ j h. copies-fewer (length es) bound j (omega arith))
+pub spread-copies : (to : List ℕ) (bound : ℤ) (es : List (List ℕ))
+    → spread to bound 0 es ≡ spread to (pos (copies (length es) bound)) 0 es
+spread-copies to bound es =
+    let n = length es in
+    same_spread to bound (pos (copies n bound)) es 0 (λ j h. copies-fewer n bound j (omega arith))
 
 pub copies-few : (n : ℕ) (bound : ℤ) → copies n bound ≤ suc n
 copies-few n (pos b) = omega arith
@@ -35,34 +41,63 @@ module _ (to : List ℕ) (count : ℕ) where
   -- no copy is left
   pub spread_none : (es : List (List ℕ)) (made : ℕ) → count ≤ made → spread to (pos count) made es ≡ concat es
   spread_none [] made past = ap (λ t. cond t to []) (le-ltb made count past)
-  spread_none (e ∷ es) made past = ap (λ t. cond t to [] ++ (e ++ spread to (pos count) (suc made) es)) (le-ltb made count past) ∙ ap (λ r. e ++ r) (spread_none es (suc made) (omega arith))
-
-  unchanged : (es : List (List ℕ)) (made : ℕ) → count ≤ made → length (spread to (pos count) made es) ≡ length (concat es) + (count - made) * length to
-  unchanged es made past = let no : count - made ≡ 0 = omega arith in omega (arith, ap length (spread_none es made past), ap (λ n. n * length to) no, zero-mul (length to))
+  spread_none (e ∷ es) made past =
+      ap (λ t. cond t to [] ++ (e ++ spread to (pos count) (suc made) es)) (le-ltb made count past)
+      ∙ ap (λ r. e ++ r) (spread_none es (suc made) (omega arith))
 
   -- one copy more, and the element behind it
-  pub spread-more : (e : List ℕ) (es : List (List ℕ)) (made : ℕ) → made < count → spread to (pos count) made (e ∷ es) ≡ to ++ (e ++ spread to (pos count) (suc made) es)
+  pub spread-more : (e : List ℕ) (es : List (List ℕ)) (made : ℕ) → made < count
+      → spread to (pos count) made (e ∷ es) ≡ to ++ (e ++ spread to (pos count) (suc made) es)
   spread-more e es made lt = ap (λ t. cond t to [] ++ (e ++ spread to (pos count) (suc made) es)) (lt-ltb made count lt)
 
   -- the copy at the end
   pub spread-last : (made : ℕ) → made < count → spread to (pos count) made [] ≡ to
   spread-last made lt = ap (λ t. cond t to []) (lt-ltb made count lt)
 
-  pub spread-size : (es : List (List ℕ)) (made : ℕ) → count ≤ made + suc (length es) → length (spread to (pos count) made es) ≡ length (concat es) + (count - made) * length to
-  spread-size [] made few = ⊎_elim
-      (λ lt. let one : count - made ≡ suc 0 = omega arith in omega (arith, ap length (spread-last made lt), ap (λ n. n * length to) one, suc-mul 0 (length to), zero-mul (length to)))
-      (λ ge. unchanged [] made ge)
-      (cases_lt made count)
-  spread-size (e ∷ es) made few = ⊎_elim
-      (λ lt.
-      let rest = spread-size es (suc made) (omega arith) in
-      let more = spread to (pos count) (suc made) es in
-      let one : count - made ≡ suc (count - suc made) = omega arith in
-      omega (arith, ap length (spread-more e es made lt), length-append to (e ++ more), length-append e more, length-append e (concat es), ap (λ n. n * length to) one, suc-mul (count - suc made) (length to)))
-      (λ ge. unchanged (e ∷ es) made ge)
-      (cases_lt made count)
+module _ (to : List ℕ) where
+  -- no copy, the copy at the end, one copy more
+  with_copies-none : (es : List (List ℕ)) → with_copies to 0 es ≡ concat es
+  with_copies-none es =
+      ap (λ b. concat es ++ (if b then to else [])) (le-ltb (length es) 0 (omega arith)) ∙ append-nil (concat es)
+
+  with_copies-last : (k : ℕ) → with_copies to (suc k) [] ≡ to
+  with_copies-last k = ap (λ b. if b then to else []) (lt-ltb 0 (suc k) (omega arith))
+
+  with_copies-more : (k : ℕ) (e : List ℕ) (es : List (List ℕ))
+      → with_copies to (suc k) (e ∷ es) ≡ to ++ (e ++ with_copies to k es)
+  with_copies-more k e es = simp (append_assoc, leb-suc-suc)
+
+  -- the copies that are still to be made stand before the next elements, and a last one at the end
+  spread-placed : (count k : ℕ) (es : List (List ℕ)) (made : ℕ) → count ≡ made + k
+      → spread to (pos count) made es ≡ with_copies to k es
+  spread-placed count zero es made all = spread_none to count es made (omega arith) ∙ sym (with_copies-none es)
+  spread-placed count (suc k) [] made all = spread-last to count made (omega arith) ∙ sym (with_copies-last k)
+  spread-placed count (suc k) (e ∷ es) made all =
+      let rest = spread-placed count k es (suc made) (omega arith) in
+      spread-more to count e es made (omega arith) ∙ (ap (λ r. to ++ (e ++ r)) rest ∙ sym (with_copies-more k e es))
+
+  -- each copy stands in its place
+  pub spread-with_copies : (bound : ℤ) (es : List (List ℕ))
+      → spread to bound 0 es ≡ with_copies to (copies (length es) bound) es
+  spread-with_copies bound es =
+      let n = copies (length es) bound in
+      spread-copies to bound es ∙ spread-placed n n es 0 (omega arith)
+
+  -- what the copies add
+  pub length-with_copies : (k : ℕ) (es : List (List ℕ)) → k ≤ suc (length es)
+      → length (with_copies to k es) ≡ length (concat es) + k * length to
+  length-with_copies zero es few = omega (arith, ap length (with_copies-none es))
+  length-with_copies (suc zero) [] few = omega (arith, ap length (with_copies-last 0))
+  length-with_copies (suc (suc k)) [] few = absurd (omega arith)
+  length-with_copies (suc k) (e ∷ es) few =
+      let more = with_copies to k es in
+      let rest = length-with_copies k es (omega arith) in
+      let long = ap length (with_copies-more k e es) ∙ length-append to (e ++ more) in
+      omega (arith, long, length-append e more, length-append e (concat es), suc-mul k (length to))
 
 -- an empty copy adds nothing
 pub spread-empty : (bound : ℤ) (es : List (List ℕ)) (made : ℕ) → spread [] bound made es ≡ concat es
 spread-empty bound [] made = nothing (fewer made bound)
-spread-empty bound (e ∷ es) made = ap (λ t. t ++ (e ++ spread [] bound (suc made) es)) (nothing (fewer made bound)) ∙ ap (λ r. e ++ r) (spread-empty bound es (suc made))
+spread-empty bound (e ∷ es) made =
+    ap (λ t. t ++ (e ++ spread [] bound (suc made) es)) (nothing (fewer made bound))
+    ∙ ap (λ r. e ++ r) (spread-empty bound es (suc made))

@@ -16,7 +16,7 @@ count-within [] f = omega arith
 count-within (e ∷ es) f = omega (arith, f.0, count-within es f.1, length-append e (concat es))
 
 -- the next element begins behind this one
-pub offset-more : (es : List (List ℕ)) (k : ℕ) → k < length es → offset es (k + 1) ≡ offset es k + length (get_or es k [])
+offset-more : (es : List (List ℕ)) (k : ℕ) → k < length es → offset es (k + 1) ≡ offset es k + length (get_or es k [])
 offset-more es k h =
     let e = get_or es k [] in
     ap (λ xs. length (concat xs)) (take_more es k [] h) ∙ (ap length (concat-append (take k es) (e ∷ [])) ∙ (length-append (concat (take k es)) (e ++ []) ∙ ap (λ r. offset es k + length r) (append-nil e)))
@@ -25,11 +25,11 @@ offset-more es k h =
 pub offset-all : (es : List (List ℕ)) (k : ℕ) → length es ≤ k → offset es k ≡ length (concat es)
 offset-all es k h = ap (λ xs. length (concat xs)) (take_all k es h)
 
-pub none-at_end : (es : List (List ℕ)) (k : ℕ) → Filled es → length es ≤ k → element_at es (offset es k) ≡ None
+none-at_end : (es : List (List ℕ)) (k : ℕ) → Filled es → length es ≤ k → element_at es (offset es k) ≡ None
 none-at_end es k f h = none-begins es (offset es k) (λ j lt same. omega (arith, offset-all es k h, offset-more es j lt, filled_at es j f lt, offset-within es (j + 1)))
 
 -- the bytes of one element
-pub element_bytes : (es : List (List ℕ)) (k : ℕ) → k < length es → part (concat es) (offset es k, offset es (k + 1)) ≡ get_or es k []
+element_bytes : (es : List (List ℕ)) (k : ℕ) → k < length es → part (concat es) (offset es k, offset es (k + 1)) ≡ get_or es k []
 element_bytes es k h =
     let one : Part es (get_or es k [] ∷ []) (offset es k) (offset es (k + 1)) = record {
       from = k;

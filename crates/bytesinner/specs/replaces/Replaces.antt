@@ -1,5 +1,5 @@
 -- What replace gives: a text with another in place of a third, up to a bound. Assumes nothing.
-use Rattle.std.specs.Prelude.{◌≡◌, ℕ, suc, ◌+◌, ◌*◌, ◌<◌, ◌≤◌, min, cond, List, [], ◌∷◌, ◌++◌, length, ℤ, pos, negsuc, Ok, Err, Result, ◌==◌, nat_le}
+use Rattle.std.specs.Prelude.{◌≡◌, ℕ, suc, ◌+◌, ◌*◌, ◌<◌, ◌≤◌, min, cond, List, [], ◌∷◌, ◌++◌, map, length, take, drop, ℤ, pos, negsuc, Ok, Err, Result, ◌==◌, nat_lt, nat_le, if◌then◌else◌}
 use Rattle.std.specs.List.{concat}
 use Rattle.anystr.specs.declared.optional.OptionalArg.{OptionalArg}
 use Rattle.anystr.specs.declared.optional.OptionalArg.TheVariants.{Present, Missing}
@@ -31,6 +31,11 @@ abbrev pub copies : ℕ → ℤ → ℕ
 copies n (pos b) = min b (suc n)
 copies n (negsuc _) = suc n
 
+-- copies of `to` among the elements: one before each of the first k, and one at the end if k is more than they are
+abbrev pub with_copies : List ℕ → ℕ → List (List ℕ) → List ℕ
+with_copies to k es =
+    concat (map (λ e. to ++ e) (take k es)) ++ concat (drop k es) ++ (if nat_lt (length es) k then to else [])
+
 -- a text, with the occurrences of `from` as its marks
 abbrev pub sheet_of : List (List ℕ) → List ℕ → ℤ → Sheet
 sheet_of es from bound = record { marks = occurrence from (concat es); bytes = concat es; bound = bound }
@@ -52,9 +57,13 @@ abbrev pub replace_of : List (List ℕ) → List ℕ → List ℕ → ℤ → Re
 replace_of es from to bound = if_short (replaced es from to bound)
 
 -- The law of replace: with a nonempty `from` it joins, with `to`, the pieces of the text that are cut apart at
--- `from`; with an empty one it adds the copies of `to`; with the bound 0 it gives the text; and its size.
+-- `from`; with an empty one it adds the copies of `to`, each in its place; with the bound 0 it gives the text; and
+-- its size.
 pub record ReplaceLaw (es : List (List ℕ)) (from to : List ℕ) (bound : ℤ) : Type 0 where
-  pub split : 0 < length from → replaced es from to bound ≡ join_parts to (concat es) (pieces_left (sheet_of es from bound) opened)
-  pub added : length from ≡ 0 → length (replaced es from to bound) ≡ length (concat es) + copies (length es) bound * length to
+  pub split : 0 < length from
+      → replaced es from to bound ≡ join_parts to (concat es) (pieces_left (sheet_of es from bound) opened)
+  pub placed : length from ≡ 0 → replaced es from to bound ≡ with_copies to (copies (length es) bound) es
+  pub added : length from ≡ 0
+      → length (replaced es from to bound) ≡ length (concat es) + copies (length es) bound * length to
   pub none : bound ≡ pos 0 → replaced es from to bound ≡ concat es
   pub size : length (replaced es from to bound) ≤ length (concat es) + suc (length (concat es)) * length to
