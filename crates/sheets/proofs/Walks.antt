@@ -67,11 +67,20 @@ walk_over es k start f o is =
     (λ ge. take_all k es ge)
     (cases_lt k (length es))
 
+-- what is shown up to an element ends with that element
+shown-up_to : (es : List (List ℕ)) (k : ℕ) (e : List ℕ) → Stands es k e → shown (take (k + 1) es) ≡ shown (take k es) ++ shown_element e
+shown-up_to es k e s = ap shown s.front ∙ (shown-append (take k es) (e ∷ []) ∙ ap (λ r. shown (take k es) ++ r) (append-nil (shown_element e)))
+
 -- one element more is shown
 pub shown-more : (es : List (List ℕ)) (k : ℕ) (e x before old new : List ℕ) → Stands es k e → x ≡ e → old ≡ before ++ shown (take k es) → new ≡ old ++ shown_element x → new ≡ before ++ shown (take (k + 1) es)
 shown-more es k e x before old new s same was is =
-    let last : shown (take (k + 1) es) ≡ shown (take k es) ++ shown_element e = ap shown s.front ∙ (shown-append (take k es) (e ∷ []) ∙ ap (λ r. shown (take k es) ++ r) (append-nil (shown_element e))) in
-    is ∙ (ap (λ o. o ++ shown_element x) was ∙ (ap (λ y. (before ++ shown (take k es)) ++ shown_element y) same ∙ (append_assoc before (shown (take k es)) (shown_element e) ∙ ap (λ r. before ++ r) (sym last))))
+    is ∙ (ap (λ o. o ++ shown_element x) was ∙ (ap (λ y. (before ++ shown (take k es)) ++ shown_element y) same ∙ (append_assoc before (shown (take k es)) (shown_element e) ∙ ap (λ r. before ++ r) (sym (shown-up_to es k e s)))))
+
+-- an element takes no more bytes than are left of the whole
+pub shown-fits : (es : List (List ℕ)) (k : ℕ) (e x before old : List ℕ) → Stands es k e → x ≡ e → old ≡ before ++ shown (take k es) → length old + length (shown_element x) ≤ length before + length (shown es)
+shown-fits es k e x before old s same was =
+    let whole : shown es ≡ shown (take (k + 1) es) ++ shown (drop (k + 1) es) = ap shown (sym (take-append-drop (k + 1) es)) ∙ shown-append (take (k + 1) es) (drop (k + 1) es) in
+    omega (arith, ap length was, length-append before (shown (take k es)), ap (λ y. length (shown_element y)) same, ap length (shown-up_to es k e s), length-append (shown (take k es)) (shown_element e), ap length whole, length-append (shown (take (k + 1) es)) (shown (drop (k + 1) es)))
 
 -- the stretch that the code cuts out is the element
 pub cut-is : (es : List (List ℕ)) (k : ℕ) (e bytes : List ℕ) (start len : ℕ) → Stands es k e → bytes ≡ concat es → offset es k ≡ start → len ≡ length e → take ((start + len) - start) (drop start bytes) ≡ e
