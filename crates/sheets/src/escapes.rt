@@ -1,4 +1,4 @@
-// Texts as they are shown, so that no byte of theirs disturbs the layout.
+//! Texts as they are shown, so that no byte of theirs disturbs the layout.
 ghost use Rattle.std.specs.Prelude.{◌≡◌, ◌<◌, ◌≤◌, ◌+◌, ◌++◌, length, vec_len, OnOk, OnErr, IsOk};
 ghost use Rattle.std.specs.Vec.{vec_capacity, VecUnchanged};
 ghost use Rattle.sheets.specs.Shown.{hex, shown_byte, shown_element, shown};
@@ -38,9 +38,8 @@ fn add_byte(out: &mut Vec<u8>, b: u8) -> Result<(), AllocError>
 fn add_element(out: &mut Vec<u8>, element: &[u8]) -> Result<(), AllocError>
     ensures ok { OnOk result (out.new.items ≡ out.old.items ++ shown_element element.now) }
     ensures err { OnErr result (VecUnchanged out.old out.new) }
-    ensures room {
-        vec_len out.old + length (shown_element element.now) ≤ vec_capacity out.old → IsOk result
-    }
+    ensures room { vec_len out.old + length (shown_element element.now)
+        ≤ vec_capacity out.old → IsOk result }
     ensures capacity { vec_capacity out.old ≤ vec_capacity out.new }
 {
     match element {
@@ -49,17 +48,18 @@ fn add_element(out: &mut Vec<u8>, element: &[u8]) -> Result<(), AllocError>
     }
 }
 
-/// Adds a text as it is shown: a tab as `\t`, a backslash as `\\`, a character beyond ASCII as it is, and any other
-/// byte that is not printable ASCII as `\x` with two hexadecimal digits. Refused only where memory runs out, and
-/// never where `out` has room for what is added.
+/// Appends a text as it is shown: a tab as `\t`, a backslash as `\\`, a character beyond ASCII
+/// as it is, and any other byte that is not printable ASCII as `\x` with two hexadecimal digits.
+///
+/// Refused only where memory runs out, and never where `out` has room for what is appended. After
+/// a refusal `out` holds what it held.
 pub fn add_text<S: AnyStr>(out: &mut Vec<u8>, text: &S) -> Result<(), AllocError>
     ensures ok { OnOk result (out.new.items ≡ out.old.items ++ shown (S.AnyStr.elements text.now)) }
     ensures err { OnErr result (VecUnchanged out.old out.new) }
-    ensures room {
-        vec_len out.old + length (shown (S.AnyStr.elements text.now)) ≤ vec_capacity out.old
-        → IsOk result
-    }
-    // so room for several texts stays room for those that are still to come
+    ensures room { vec_len out.old + length (shown (S.AnyStr.elements text.now))
+        ≤ vec_capacity out.old → IsOk result }
+
+    // so room that is made for several texts is still there for the later ones
     ensures capacity { vec_capacity out.old ≤ vec_capacity out.new }
 {
     let bytes = text.as_bytes();

@@ -1,7 +1,6 @@
-use Rattle.std.proofs.Common.{◌+◌, ◌++◌, length, vec_items, sym, refl, ap, ◌∙◌, arith}
+use Rattle.std.proofs.Common.{◌+◌, length, vec_items, sym, refl, ap, arith, rules}
 use Rattle.std.proofs.lemmas.List.{append-nil}
-use Rattle.sheets.specs.Shown.{shown}
-use Rattle.sheets.proofs.Walks.{element_stands, walk_over, shown-more, shown-fits, cut-is}
+use Rattle.sheets.proofs.Walks.{element_stands, shown-more, shown-fits, shown-all, cut-is}
 use Rattle.sheets.proofs.escapes.add_text.Goals as goal
 
 pub overflow_add-end : goal.overflow_add-end
@@ -38,9 +37,12 @@ loop-len-preserved g c =
     let inv = c.loop-len.invariant in
     let here = element_stands es inv.0 c.loop-len.start _ (g.S.AnyStr.filled s) inv.1 c.in-Some.ensures.element in
     let l = c.in-Some.ensures.len in
-    let cut = cut-is es inv.0 _ _ c.loop-len.start c.in-Some.len here c.as_bytes-bytes.ensures inv.1 l in
-    let more = shown-more es inv.0 _ _ _ _ _ here cut inv.2 c.in_default-add_element.ensures.ok in
-    (inv.0 + 1, omega (arith, here.next, inv.1, l), more, omega (arith, inv.3, c.in_default-add_element.ensures.capacity))
+    let cut = cut-is es inv.0 _ _ c.loop-len.start c.in-Some.len here c.as_bytes-bytes.ensures inv.1 l in (
+      inv.0 + 1,
+      omega (arith, here.next, inv.1, l),
+      shown-more es inv.0 _ _ _ _ _ here cut inv.2 c.in_default-add_element.ensures.ok,
+      omega (arith, inv.3, c.in_default-add_element.ensures.capacity),
+    )
 
 -- with room for all that is shown there was room for this element
 pub returns-in-Err-clause-room : goal.returns-in-Err-clause-room
@@ -58,7 +60,8 @@ pub returns-clause-ok : goal.returns-clause-ok
 returns-clause-ok g c =
     let s = c.args.text.now in
     let inv = c.loop-len.invariant in
-    inv.2 ∙ ap (λ xs. vec_items c.args.out.now ++ shown xs) (walk_over (g.S.AnyStr.elements s) inv.0 c.loop-len.start (g.S.AnyStr.filled s) inv.1 c.in_default.ensures.element)
+    let whole = shown-all _ inv.0 _ _ _ (g.S.AnyStr.filled s) inv.1 c.in_default.ensures.element inv.2 in
+    search (rules, whole)
 
 pub loop-len-init : goal.loop-len-init
 loop-len-init g c = (0, refl, sym (append-nil (vec_items c.args.out.now)), omega arith)
