@@ -59,7 +59,8 @@ element_stands es k start e f o is =
     (cases_lt k (length es))
 
 -- where none begins the walk is over
-walk_over : (es : List (List ℕ)) (k start : ℕ) → Filled es → offset es k ≡ start → None ≡ element_at es start → take k es ≡ es
+walk_over : (es : List (List ℕ)) (k start : ℕ) → Filled es → offset es k ≡ start → None ≡ element_at es start
+    → take k es ≡ es
 walk_over es k start f o is =
     let at : element_at es (offset es k) ≡ None = ap (element_at es) o ∙ sym is in
     ⊎_elim
@@ -78,9 +79,10 @@ shown-up_to es k e s =
 pub shown-more : (es : List (List ℕ)) (k : ℕ) (e x before old new : List ℕ) → Stands es k e → x ≡ e
     → old ≡ before ++ shown (take k es) → new ≡ old ++ shown_element x → new ≡ before ++ shown (take (k + 1) es)
 shown-more es k e x before old new s same was is =
+    let this = ap (λ y. (before ++ shown (take k es)) ++ shown_element y) same in
     let joined = append_assoc before (shown (take k es)) (shown_element e) in
     let more = ap (λ r. before ++ r) (sym (shown-up_to es k e s)) in
-    is ∙ (ap (λ o. o ++ shown_element x) was ∙ (ap (λ y. (before ++ shown (take k es)) ++ shown_element y) same ∙ (joined ∙ more)))
+    is ∙ (ap (λ o. o ++ shown_element x) was ∙ (this ∙ (joined ∙ more)))
 
 -- with an element more no more bytes are shown than in all
 pub shown-fits : (es : List (List ℕ)) (k : ℕ) (e x before old : List ℕ) → Stands es k e → x ≡ e

@@ -8,7 +8,7 @@ overflow_add-end g c =
     let s = c.args.text.now in
     let es = g.S.AnyStr.elements s in
     let inv = c.loop-len.invariant in
-    let here = element_stands es inv.0 c.loop-len.start _ (g.S.AnyStr.filled s) inv.1 c.in-Some.ensures.element in
+    let here = element_stands es inv.count _ _ (g.S.AnyStr.filled s) inv.begins c.in-Some.ensures.element in
     let l = c.in-Some.ensures.len in
     omega (arith, g.S.AnyStr.few s)
 
@@ -17,7 +17,7 @@ slice_bounds-add_element-end g c =
     let s = c.args.text.now in
     let es = g.S.AnyStr.elements s in
     let inv = c.loop-len.invariant in
-    let here = element_stands es inv.0 c.loop-len.start _ (g.S.AnyStr.filled s) inv.1 c.in-Some.ensures.element in
+    let here = element_stands es inv.count _ _ (g.S.AnyStr.filled s) inv.begins c.in-Some.ensures.element in
     let l = c.in-Some.ensures.len in
     omega (arith, ap length c.as_bytes-bytes.ensures)
 
@@ -26,7 +26,7 @@ loop-len-smaller g c =
     let s = c.args.text.now in
     let es = g.S.AnyStr.elements s in
     let inv = c.loop-len.invariant in
-    let here = element_stands es inv.0 c.loop-len.start _ (g.S.AnyStr.filled s) inv.1 c.in-Some.ensures.element in
+    let here = element_stands es inv.count _ _ (g.S.AnyStr.filled s) inv.begins c.in-Some.ensures.element in
     let l = c.in-Some.ensures.len in
     omega arith
 
@@ -35,14 +35,15 @@ loop-len-preserved g c =
     let s = c.args.text.now in
     let es = g.S.AnyStr.elements s in
     let inv = c.loop-len.invariant in
-    let here = element_stands es inv.0 c.loop-len.start _ (g.S.AnyStr.filled s) inv.1 c.in-Some.ensures.element in
+    let here = element_stands es inv.count _ _ (g.S.AnyStr.filled s) inv.begins c.in-Some.ensures.element in
     let l = c.in-Some.ensures.len in
-    let cut = cut-is es inv.0 _ _ c.loop-len.start c.in-Some.len here c.as_bytes-bytes.ensures inv.1 l in (
-      inv.0 + 1,
-      omega (arith, here.next, inv.1, l),
-      shown-more es inv.0 _ _ _ _ _ here cut inv.2 c.in_default-add_element.ensures.ok,
-      omega (arith, inv.3, c.in_default-add_element.ensures.capacity),
-    )
+    let cut = cut-is es inv.count _ _ _ _ here c.as_bytes-bytes.ensures inv.begins l in
+    record {
+      count = inv.count + 1;
+      begins = omega (arith, here.next, inv.begins, l);
+      added = shown-more es inv.count _ _ _ _ _ here cut inv.added c.in_default-add_element.ensures.ok;
+      grown = omega (arith, inv.grown, c.in_default-add_element.ensures.capacity);
+    }
 
 -- with room for all that is shown there was room for this element
 pub returns-in-Err-clause-room : goal.returns-in-Err-clause-room
@@ -50,18 +51,23 @@ returns-in-Err-clause-room g c room =
     let s = c.args.text.now in
     let es = g.S.AnyStr.elements s in
     let inv = c.loop-len.invariant in
-    let here = element_stands es inv.0 c.loop-len.start _ (g.S.AnyStr.filled s) inv.1 c.in-Some.ensures.element in
+    let here = element_stands es inv.count _ _ (g.S.AnyStr.filled s) inv.begins c.in-Some.ensures.element in
     let l = c.in-Some.ensures.len in
-    let cut = cut-is es inv.0 _ _ c.loop-len.start c.in-Some.len here c.as_bytes-bytes.ensures inv.1 l in
-    let fits = shown-fits es inv.0 _ _ _ _ here cut inv.2 in
-    c.in-Err.ensures.room (omega (arith, fits, room, inv.3, c.args.out.now.ok.0, c.loop-len.out.ok.0))
+    let cut = cut-is es inv.count _ _ _ _ here c.as_bytes-bytes.ensures inv.begins l in
+    let fits = shown-fits es inv.count _ _ _ _ here cut inv.added in
+    c.in-Err.ensures.room (omega (arith, fits, room, inv.grown, c.args.out.now.ok.0, c.loop-len.out.ok.0))
 
 pub returns-clause-ok : goal.returns-clause-ok
 returns-clause-ok g c =
     let s = c.args.text.now in
     let inv = c.loop-len.invariant in
-    let whole = shown-all _ inv.0 _ _ _ (g.S.AnyStr.filled s) inv.1 c.in_default.ensures.element inv.2 in
+    let whole = shown-all _ inv.count _ _ _ (g.S.AnyStr.filled s) inv.begins c.in_default.ensures.element inv.added in
     search (rules, whole)
 
 pub loop-len-init : goal.loop-len-init
-loop-len-init g c = (0, refl, sym (append-nil (vec_items c.args.out.now)), omega arith)
+loop-len-init g c = record {
+  count = 0;
+  begins = refl;
+  added = sym (append-nil (vec_items c.args.out.now));
+  grown = omega arith;
+}
