@@ -1,5 +1,4 @@
-use Rattle.std.proofs.Common.{◌+◌, length, vec_items, sym, refl, ap, arith, rules}
-use Rattle.std.proofs.lemmas.List.{append-nil}
+use Rattle.std.proofs.Common.{◌+◌, length, ap, arith, rules}
 use Rattle.sheets.proofs.Walks.{element_stands, shown-more, shown-fits, shown-all, cut-is}
 use Rattle.sheets.proofs.escapes.add_text.Goals as goal
 
@@ -63,11 +62,3 @@ returns-clause-ok g c =
     let inv = c.loop-len.invariant in
     let whole = shown-all _ inv.count _ _ _ (g.S.AnyStr.filled s) inv.begins c.in_default.ensures.element inv.added in
     search (rules, whole)
-
-pub loop-len-init : goal.loop-len-init
-loop-len-init g c = record {
-  count = 0;
-  begins = refl;
-  added = sym (append-nil (vec_items c.args.out.now));
-  grown = omega arith;
-}
