@@ -59,7 +59,8 @@ element_stands es k start e f o is =
     (cases_lt k (length es))
 
 -- where none begins the walk is over
-pub walk_over : (es : List (List ℕ)) (k start : ℕ) → Filled es → offset es k ≡ start → None ≡ element_at es start → take k es ≡ es
+walk_over : (es : List (List ℕ)) (k start : ℕ) → Filled es → offset es k ≡ start → None ≡ element_at es start
+    → take k es ≡ es
 walk_over es k start f o is =
     let at : element_at es (offset es k) ≡ None = ap (element_at es) o ∙ sym is in
     ⊎_elim
@@ -67,11 +68,40 @@ walk_over es k start f o is =
     (λ ge. take_all k es ge)
     (cases_lt k (length es))
 
+-- what is shown up to an element ends with that element
+shown-up_to : (es : List (List ℕ)) (k : ℕ) (e : List ℕ) → Stands es k e
+    → shown (take (k + 1) es) ≡ shown (take k es) ++ shown_element e
+shown-up_to es k e s =
+    let last : shown (e ∷ []) ≡ shown_element e = append-nil (shown_element e) in
+    ap shown s.front ∙ (shown-append (take k es) (e ∷ []) ∙ ap (λ r. shown (take k es) ++ r) last)
+
 -- one element more is shown
-pub shown-more : (es : List (List ℕ)) (k : ℕ) (e x before old new : List ℕ) → Stands es k e → x ≡ e → old ≡ before ++ shown (take k es) → new ≡ old ++ shown_element x → new ≡ before ++ shown (take (k + 1) es)
+pub shown-more : (es : List (List ℕ)) (k : ℕ) (e x before old new : List ℕ) → Stands es k e → x ≡ e
+    → old ≡ before ++ shown (take k es) → new ≡ old ++ shown_element x → new ≡ before ++ shown (take (k + 1) es)
 shown-more es k e x before old new s same was is =
-    let last : shown (take (k + 1) es) ≡ shown (take k es) ++ shown_element e = ap shown s.front ∙ (shown-append (take k es) (e ∷ []) ∙ ap (λ r. shown (take k es) ++ r) (append-nil (shown_element e))) in
-    is ∙ (ap (λ o. o ++ shown_element x) was ∙ (ap (λ y. (before ++ shown (take k es)) ++ shown_element y) same ∙ (append_assoc before (shown (take k es)) (shown_element e) ∙ ap (λ r. before ++ r) (sym last))))
+    let this = ap (λ y. (before ++ shown (take k es)) ++ shown_element y) same in
+    let joined = append_assoc before (shown (take k es)) (shown_element e) in
+    let more = ap (λ r. before ++ r) (sym (shown-up_to es k e s)) in
+    is ∙ (ap (λ o. o ++ shown_element x) was ∙ (this ∙ (joined ∙ more)))
+
+-- with an element more no more bytes are shown than in all
+pub shown-fits : (es : List (List ℕ)) (k : ℕ) (e x before old : List ℕ) → Stands es k e → x ≡ e
+    → old ≡ before ++ shown (take k es) → length old + length (shown_element x) ≤ length before + length (shown es)
+shown-fits es k e x before old s same was =
+    let up_to = take (k + 1) es in
+    let rest = drop (k + 1) es in
+    let whole : shown es ≡ shown up_to ++ shown rest =
+    ap shown (sym (take-append-drop (k + 1) es)) ∙ shown-append up_to rest in
+    let all = length-append (shown up_to) (shown rest) in
+    let had = length-append before (shown (take k es)) in
+    let more = length-append (shown (take k es)) (shown_element e) in
+    let this = ap (λ y. length (shown_element y)) same in
+    omega (arith, ap length was, had, this, ap length (shown-up_to es k e s), more, ap length whole, all)
+
+-- where no element begins all are shown
+pub shown-all : (es : List (List ℕ)) (k start : ℕ) (before out : List ℕ) → Filled es → offset es k ≡ start
+    → None ≡ element_at es start → out ≡ before ++ shown (take k es) → out ≡ before ++ shown es
+shown-all es k start before out f o is was = was ∙ ap (λ xs. before ++ shown xs) (walk_over es k start f o is)
 
 -- the stretch that the code cuts out is the element
 pub cut-is : (es : List (List ℕ)) (k : ℕ) (e bytes : List ℕ) (start len : ℕ) → Stands es k e → bytes ≡ concat es → offset es k ≡ start → len ≡ length e → take ((start + len) - start) (drop start bytes) ≡ e

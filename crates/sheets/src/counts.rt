@@ -1,4 +1,4 @@
-// How many bytes of a text are in a set.
+//! How many bytes of a text are in a set.
 ghost use Rattle.std.specs.Prelude.{◌≡◌, count_by};
 ghost use Rattle.std.specs.List.{concat};
 ghost use Rattle.searchers.specs.bytesets.Sets.{member};
@@ -7,7 +7,7 @@ use searchers::ascii::AsciiStr;
 use searchers::bytesets::asciiset::AsciiSet;
 use searchers::count::count_marks;
 
-// How many bytes of the text are in the set.
+/// The number of bytes of the text that are in the set, however often each stands there.
 pub fn count_in<S: AsciiStr>(text: &S, set: &AsciiSet) -> usize
     ensures { result ≡ count_by (member set.now.set.has) (concat (S.AnyStr.elements text.now)) }
 {

@@ -1,4 +1,4 @@
-// What a page shows of a sheet: its texts spelled out, and counts of bytes.
+//! What a page shows of a sheet: its texts spelled out, and counts of bytes.
 #![tactic(auto)]
 
 pub mod counts;

@@ -1,7 +1,5 @@
-use Rattle.std.proofs.Common.{◌+◌, ◌++◌, length, vec_items, sym, refl, ap, ◌∙◌, arith}
-use Rattle.std.proofs.lemmas.List.{append-nil}
-use Rattle.sheets.specs.Shown.{shown}
-use Rattle.sheets.proofs.Walks.{element_stands, walk_over, shown-more, cut-is}
+use Rattle.std.proofs.Common.{◌+◌, length, ap, arith, rules}
+use Rattle.sheets.proofs.Walks.{element_stands, shown-more, shown-fits, shown-all, cut-is}
 use Rattle.sheets.proofs.escapes.add_text.Goals as goal
 
 pub overflow_add-end : goal.overflow_add-end
@@ -9,7 +7,7 @@ overflow_add-end g c =
     let s = c.args.text.now in
     let es = g.S.AnyStr.elements s in
     let inv = c.loop-len.invariant in
-    let here = element_stands es inv.0 c.loop-len.start _ (g.S.AnyStr.filled s) inv.1 c.in-Some.ensures.element in
+    let here = element_stands es inv.count _ _ (g.S.AnyStr.filled s) inv.begins c.in-Some.ensures.element in
     let l = c.in-Some.ensures.len in
     omega (arith, g.S.AnyStr.few s)
 
@@ -18,7 +16,7 @@ slice_bounds-add_element-end g c =
     let s = c.args.text.now in
     let es = g.S.AnyStr.elements s in
     let inv = c.loop-len.invariant in
-    let here = element_stands es inv.0 c.loop-len.start _ (g.S.AnyStr.filled s) inv.1 c.in-Some.ensures.element in
+    let here = element_stands es inv.count _ _ (g.S.AnyStr.filled s) inv.begins c.in-Some.ensures.element in
     let l = c.in-Some.ensures.len in
     omega (arith, ap length c.as_bytes-bytes.ensures)
 
@@ -27,7 +25,7 @@ loop-len-smaller g c =
     let s = c.args.text.now in
     let es = g.S.AnyStr.elements s in
     let inv = c.loop-len.invariant in
-    let here = element_stands es inv.0 c.loop-len.start _ (g.S.AnyStr.filled s) inv.1 c.in-Some.ensures.element in
+    let here = element_stands es inv.count _ _ (g.S.AnyStr.filled s) inv.begins c.in-Some.ensures.element in
     let l = c.in-Some.ensures.len in
     omega arith
 
@@ -36,16 +34,31 @@ loop-len-preserved g c =
     let s = c.args.text.now in
     let es = g.S.AnyStr.elements s in
     let inv = c.loop-len.invariant in
-    let here = element_stands es inv.0 c.loop-len.start _ (g.S.AnyStr.filled s) inv.1 c.in-Some.ensures.element in
+    let here = element_stands es inv.count _ _ (g.S.AnyStr.filled s) inv.begins c.in-Some.ensures.element in
     let l = c.in-Some.ensures.len in
-    let cut = cut-is es inv.0 _ _ c.loop-len.start c.in-Some.len here c.as_bytes-bytes.ensures inv.1 l in
-    (inv.0 + 1, omega (arith, here.next, inv.1, l), shown-more es inv.0 _ _ _ _ _ here cut inv.2 c.in_ok-add_element.ensures)
+    let cut = cut-is es inv.count _ _ _ _ here c.as_bytes-bytes.ensures inv.begins l in
+    record {
+      count = inv.count + 1;
+      begins = omega (arith, here.next, inv.begins, l);
+      added = shown-more es inv.count _ _ _ _ _ here cut inv.added c.in_default-add_element.ensures.ok;
+      grown = omega (arith, inv.grown, c.in_default-add_element.ensures.capacity);
+    }
 
-pub returns : goal.returns
-returns g c =
+-- with room for all that is shown there was room for this element
+pub returns-in-Err-clause-room : goal.returns-in-Err-clause-room
+returns-in-Err-clause-room g c room =
+    let s = c.args.text.now in
+    let es = g.S.AnyStr.elements s in
+    let inv = c.loop-len.invariant in
+    let here = element_stands es inv.count _ _ (g.S.AnyStr.filled s) inv.begins c.in-Some.ensures.element in
+    let l = c.in-Some.ensures.len in
+    let cut = cut-is es inv.count _ _ _ _ here c.as_bytes-bytes.ensures inv.begins l in
+    let fits = shown-fits es inv.count _ _ _ _ here cut inv.added in
+    c.in-Err.ensures.room (omega (arith, fits, room, inv.grown, c.args.out.now.ok.0, c.loop-len.out.ok.0))
+
+pub returns-clause-ok : goal.returns-clause-ok
+returns-clause-ok g c =
     let s = c.args.text.now in
     let inv = c.loop-len.invariant in
-    inv.2 ∙ ap (λ xs. vec_items c.args.out.now ++ shown xs) (walk_over (g.S.AnyStr.elements s) inv.0 c.loop-len.start (g.S.AnyStr.filled s) inv.1 c.in_default.ensures.element)
-
-pub loop-len-init : goal.loop-len-init
-loop-len-init g c = (0, refl, sym (append-nil (vec_items c.args.out.now)))
+    let whole = shown-all _ inv.count _ _ _ (g.S.AnyStr.filled s) inv.begins c.in_default.ensures.element inv.added in
+    search (rules, whole)
