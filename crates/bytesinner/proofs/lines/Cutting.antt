@@ -3,9 +3,9 @@ use Rattle.std.proofs.Common.{◌≡◌, ℕ, ◌<◌, ◌≤◌, Bool, true, fa
 use Rattle.anystr.specs.declared.anystr.AnyStr
 use Rattle.searchers.specs.Marks.{Marks, Lawful, Span}
 use Rattle.searchers.specs.declared.searcher.Searcher
-use Rattle.cuts.specs.Cuts.{Sheet, size}
+use Rattle.cuts.specs.Cuts.{Opening, size}
 use Rattle.cuts.specs.Runs.{Step, next}
-use Rattle.cutters.specs.Calls.{sheet, state, span, SameSheet}
+use Rattle.cutters.specs.Calls.{opening, state, span, SameSheet}
 use Rattle.cutters.specs.declared.cutter.Cutter.{Cutter}
 use Rattle.cutters.specs.declared.piece.Piece.{Piece}
 use Rattle.cutters.proofs.Same.{same_sheet}
@@ -13,8 +13,8 @@ use Rattle.bytesinner.specs.lines.Lines.{lines_left}
 use Rattle.bytesinner.proofs.lines.Step.{none_left, line-more}
 
 module _ {S F C : Type 0} {s : AnyStr.Ghosts S C} {f : Searcher.Ghosts F S C} (marks : F → List (List ℕ) → Marks) (elements : S → List (List ℕ)) (keep : Bool) where
-  abbrev on : Cutter S F C s f → Sheet
-  on c = sheet marks elements c
+  abbrev on : Cutter S F C s f → Opening
+  on c = opening marks elements c
 
   abbrev left : Cutter S F C s f → List Span
   left c = lines_left (on c) keep (state c)
@@ -34,7 +34,7 @@ module _ {S F C : Type 0} {s : AnyStr.Ghosts S C} {f : Searcher.Ghosts F S C} (m
         omega arith
 
     left-same : lines_left (on c) keep (state d) ≡ left d
-    left-same = ap (λ (o : Sheet). lines_left o keep (state d)) (sym (same_sheet marks elements c d same))
+    left-same = ap (λ (o : Opening). lines_left o keep (state d)) (sym (same_sheet marks elements c d same))
 
     module _ (p : Piece) (step : Step (on c) (state c) (next (Some (span p))) (state d)) where
       more : left c ≡ (p.start, cond keep d.progress.place p.end) ∷ left d

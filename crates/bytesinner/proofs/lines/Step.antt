@@ -2,7 +2,7 @@
 use Rattle.std.proofs.Common.{◌≡◌, ℕ, suc, ◌<◌, ◌≤◌, Bool, true, false, cond, ltb, List, [], ◌∷◌, Some, sym, refl, ap, ◌∙◌, subst, arith}
 use Rattle.std.proofs.lemmas.Bool.{lt-ltb, le-ltb, ltb-false, cond_both, cond-true, cond-false}
 use Rattle.searchers.specs.Marks.{Span, Lawful}
-use Rattle.cuts.specs.Cuts.{Sheet, size, State, at, cut_from, between, next_of, after_cut}
+use Rattle.cuts.specs.Cuts.{Opening, size, State, at, cut_from, between, next_of, after_cut}
 use Rattle.cuts.specs.Runs.{Step, next}
 use Rattle.cuts.proofs.Found.{listed-past}
 use Rattle.cuts.proofs.Left.{first}
@@ -35,7 +35,7 @@ no_lines : (keep : Bool) (len : ℕ) → lines_from keep len [] ≡ []
 no_lines true len = refl
 no_lines false len = refl
 
-module _ (on : Sheet) (law : Lawful on.marks (size on)) (keep : Bool) where
+module _ (on : Opening) (law : Lawful on.marks (size on)) (keep : Bool) where
   -- past the end of the text no line is left
   pub none_left : (place made : ℕ) (spent : Bool) → size on ≤ place → lines_left on keep (at place made spent) ≡ []
   none_left place made true past = no_lines keep (size on)

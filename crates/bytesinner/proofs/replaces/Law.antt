@@ -7,7 +7,7 @@ use Rattle.anystr.specs.Limits.{most_bytes}
 use Rattle.searchers.specs.substring.Occurrences.{occurrence, occurrence-lawful}
 use Rattle.cuts.specs.Cuts.{all_marks, cut_from, poured}
 use Rattle.cuts.proofs.Sizes.{cuts-within, poured-within}
-use Rattle.bytesinner.specs.replaces.Replaces.{most_result, spread, copies, sheet_of, cut_out, replaced, if_short, ReplaceLaw}
+use Rattle.bytesinner.specs.replaces.Replaces.{most_result, spread, copies, opening_at, cut_out, replaced, if_short, ReplaceLaw}
 use Rattle.bytesinner.proofs.replaces.Spreading.{spread-with_copies, length-with_copies, spread_none, copies-few}
 use Rattle.bytesinner.proofs.replaces.Cutting.{no_cuts, poured-joined}
 use Rattle.bytesinner.proofs.replaces.Walking.{count-within}
@@ -41,12 +41,12 @@ pub cut-within : (es : List (List ℕ)) (from to : List ℕ) (bound : ℤ)
     → length (cut_out es from to bound) ≤ length (concat es) + suc (length (concat es)) * length to
 cut-within es from to bound =
     let n = length (concat es) in
-    let sheet = sheet_of es from bound in
+    let on = opening_at es from bound in
     let law = occurrence-lawful from (concat es) in
-    let ms = cut_from sheet 0 0 in
-    let few = cuts-within sheet law ms 0 0 (omega arith) refl in
+    let ms = cut_from on 0 0 in
+    let few = cuts-within on law ms 0 0 (omega arith) refl in
     let times : length ms * length to ≤ suc n * length to = mul-le-mul (omega arith) (omega arith) in
-    omega (arith, poured-within sheet law to ms 0 0 (omega arith) refl)
+    omega (arith, poured-within on law to ms 0 0 (omega arith) refl)
 
 -- a result within the limits is not too long
 pub short : (bytes all to : List ℕ) → length all ≤ most_bytes → length to ≤ most_bytes
@@ -71,7 +71,7 @@ none-replaced es from to = ⊎_elim
 pub replace-law : (es : List (List ℕ)) (from to : List ℕ) (bound : ℤ) → Filled es → ReplaceLaw es from to bound
 replace-law es from to bound filled = record {
   split = λ some.
-      let ms = cut_from (sheet_of es from bound) 0 0 in
+      let ms = cut_from (opening_at es from bound) 0 0 in
       at-marks es from to bound (λ z. omega arith) ∙ poured-joined (concat es) to 0 ms;
   placed = λ none. at-elements es from to bound none ∙ spread-with_copies to bound es;
   added = λ none. ap length (at-elements es from to bound none) ∙ spread-long es to bound;

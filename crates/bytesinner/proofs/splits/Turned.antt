@@ -11,9 +11,9 @@ use Rattle.searchers.specs.Marks.{Marks, Span}
 use Rattle.searchers.specs.declared.searcher.Searcher
 use Rattle.searchers.specs.substring.Occurrences.{occurrence}
 use Rattle.searchers.specs.declared.substring.Substring.{Substring}
-use Rattle.cuts.specs.Cuts.{opened}
+use Rattle.cuts.specs.Cuts.{at_opening}
 use Rattle.cuts.specs.Splits.{pieces_of, flip, mirror, left_back}
-use Rattle.bytesinner.specs.splits.Back.{sheet, state}
+use Rattle.bytesinner.specs.splits.Back.{opening, state}
 use Rattle.bytesinner.specs.splits.Separated.{separated}
 use Rattle.bytesinner.specs.declared.splits.back.BackCutter.{BackCutter}
 
@@ -27,8 +27,8 @@ module _ {S C : Type 0} (elements : S → List (List ℕ)) where
   found f es = occurrence (concat (elements f.needle)) (concat es)
 
   pub opened-left : {s : AnyStr.Ghosts S C} {f : Searcher.Ghosts (Substring S C) S C} (c : BackCutter S (Substring S C) C s f) (text sep : S) (searcher : Substring S C) (bound : ℤ)
-      → c.text ≡ text → c.searcher ≡ searcher → c.bound ≡ bound → state elements c ≡ opened → searcher.needle ≡ sep
-      → left_back (sheet found elements c) (state elements c) ≡ from_back (concat (elements text)) (concat (elements sep)) bound
+      → c.text ≡ text → c.searcher ≡ searcher → c.bound ≡ bound → state elements c ≡ at_opening → searcher.needle ≡ sep
+      → left_back (opening found elements c) (state elements c) ≡ from_back (concat (elements text)) (concat (elements sep)) bound
   opened-left c text sep searcher bound on for upto at_first needle =
       (λ i. left_back (record { marks = found (for i) (elements (on i)); bytes = concat (elements (on i)); bound = upto i }) (at_first i))
       ∙ (λ i. from_back (concat (elements text)) (concat (elements (needle i))) bound)

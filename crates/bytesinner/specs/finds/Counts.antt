@@ -2,12 +2,12 @@
 use Rattle.std.specs.Prelude.{◌≡◌, ℕ, suc, ◌-◌, ◌<◌, ◌≤◌, cond, List, [], ◌∷◌, length, negsuc, Some, nat_le}
 use Rattle.searchers.specs.Marks.{Span}
 use Rattle.searchers.specs.substring.Occurrences.{occurrence}
-use Rattle.cuts.specs.Cuts.{Sheet, cut_from}
+use Rattle.cuts.specs.Cuts.{Opening, cut_from}
 use Rattle.cuts.specs.Runs.{Cut, CutRule, Lie, marks_of}
 use Rattle.anystr.specs.Places.{part}
 
 -- bytes to be cut at every occurrence of a needle, without bound
-abbrev pub cut_by : List ℕ → List ℕ → Sheet
+abbrev pub cut_by : List ℕ → List ℕ → Opening
 cut_by n bs = record { marks = occurrence n bs; bytes = bs; bound = negsuc 0 }
 
 -- the number of occurrences that are cut from the front; an empty needle stands before each byte and at the end

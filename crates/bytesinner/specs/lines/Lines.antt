@@ -3,7 +3,7 @@ use Rattle.std.specs.Prelude.{◌≡◌, ℕ, ◌<◌, ◌≤◌, Bool, cond, Li
 use Rattle.anystr.specs.Places.{part}
 use Rattle.searchers.specs.Marks.{Marks, Span}
 use Rattle.searchers.specs.lineends.Lines.{line_end, LineEnd}
-use Rattle.cuts.specs.Cuts.{Sheet, size, State, all_marks, cuts, between, pieces_left}
+use Rattle.cuts.specs.Cuts.{Opening, size, State, all_marks, cuts, between, pieces_left}
 
 -- the pieces, without the last where it is empty
 abbrev pub filled : List Span → List Span
@@ -34,8 +34,8 @@ abbrev pub lines_of : List ℕ → Bool → List Span
 lines_of bytes keepends = lines_at (line_end bytes) (length bytes) keepends
 
 -- the lines that a cutter has left
-abbrev pub lines_left : Sheet → Bool → State → List Span
-lines_left sheet keepends s = lines_from keepends (size sheet) (pieces_left sheet s)
+abbrev pub lines_left : Opening → Bool → State → List Span
+lines_left on keepends s = lines_from keepends (size on) (pieces_left on s)
 
 -- no line feed or carriage return stands from a to e
 abbrev pub Bare : List ℕ → ℕ → ℕ → Type 0

@@ -4,7 +4,7 @@ use Rattle.std.specs.List.{concat}
 use Rattle.anystr.specs.declared.optional.OptionalArg.{OptionalArg}
 use Rattle.anystr.specs.declared.optional.OptionalArg.TheVariants.{Present, Missing}
 use Rattle.searchers.specs.substring.Occurrences.{occurrence}
-use Rattle.cuts.specs.Cuts.{Sheet, opened, fewer, cut_from, poured, pieces_left}
+use Rattle.cuts.specs.Cuts.{Opening, at_opening, fewer, cut_from, poured, pieces_left}
 use Rattle.anystr.specs.Places.{join_parts}
 
 -- the most bytes of a result; the code's MAX_RESULT
@@ -37,12 +37,12 @@ with_copies to k es =
     concat (map (λ e. to ++ e) (take k es)) ++ concat (drop k es) ++ (if nat_lt (length es) k then to else [])
 
 -- a text, with the occurrences of `from` as its marks
-abbrev pub sheet_of : List (List ℕ) → List ℕ → ℤ → Sheet
-sheet_of es from bound = record { marks = occurrence from (concat es); bytes = concat es; bound = bound }
+abbrev pub opening_at : List (List ℕ) → List ℕ → ℤ → Opening
+opening_at es from bound = record { marks = occurrence from (concat es); bytes = concat es; bound = bound }
 
 -- `to` in place of each occurrence that is cut
 abbrev pub cut_out : List (List ℕ) → List ℕ → List ℕ → ℤ → List ℕ
-cut_out es from to bound = poured (concat es) to 0 (cut_from (sheet_of es from bound) 0 0)
+cut_out es from to bound = poured (concat es) to 0 (cut_from (opening_at es from bound) 0 0)
 
 -- the text with `to` in place of `from`; an empty `from` stands before each element and at the end
 abbrev pub replaced : List (List ℕ) → List ℕ → List ℕ → ℤ → List ℕ
@@ -61,7 +61,7 @@ replace_of es from to bound = if_short (replaced es from to bound)
 -- its size.
 pub record ReplaceLaw (es : List (List ℕ)) (from to : List ℕ) (bound : ℤ) : Type 0 where
   pub split : 0 < length from
-      → replaced es from to bound ≡ join_parts to (concat es) (pieces_left (sheet_of es from bound) opened)
+      → replaced es from to bound ≡ join_parts to (concat es) (pieces_left (opening_at es from bound) at_opening)
   pub placed : length from ≡ 0 → replaced es from to bound ≡ with_copies to (copies (length es) bound) es
   pub added : length from ≡ 0
       → length (replaced es from to bound) ≡ length (concat es) + copies (length es) bound * length to

@@ -5,7 +5,7 @@ ghost use Rattle.std.specs.List.{concat};
 ghost use Rattle.anystr.specs.Limits.{most_bytes};
 ghost use Rattle.cuts.specs.Cuts.{pieces_left};
 ghost use Rattle.cuts.proofs.Sizes.{pieces-few};
-ghost use Rattle.cutters.specs.Calls.{sheet, state, span};
+ghost use Rattle.cutters.specs.Calls.{opening, state, span};
 ghost use Rattle.bytesinner.specs.lines.Lines.{lines_at};
 ghost use Rattle.bytesinner.specs.lines.Left.{left};
 ghost use Rattle.bytesinner.specs.lines.Few.{lines-few};
@@ -66,7 +66,7 @@ impl<S: AnyStr, F: Searcher<S> + Drop> Iterator for Lines<S, F> {
 impl<S: AnyStr, F: Searcher<S> + Drop> Pieces for Lines<S, F> {
     ghost left = { left F.Searcher.marks S.AnyStr.elements };
 
-    ghost few = { λ s. lines-few s.keepends (length (concat (S.AnyStr.elements s.cutter.text))) (suc most_bytes) (pieces_left (sheet F.Searcher.marks S.AnyStr.elements s.cutter) (state s.cutter)) (pieces-few (sheet F.Searcher.marks S.AnyStr.elements s.cutter) (F.Searcher.lawful s.cutter.searcher (S.AnyStr.elements s.cutter.text)) (S.AnyStr.few s.cutter.text) (state s.cutter)) };
+    ghost few = { λ s. lines-few s.keepends (length (concat (S.AnyStr.elements s.cutter.text))) (suc most_bytes) (pieces_left (opening F.Searcher.marks S.AnyStr.elements s.cutter) (state s.cutter)) (pieces-few (opening F.Searcher.marks S.AnyStr.elements s.cutter) (F.Searcher.lawful s.cutter.searcher (S.AnyStr.elements s.cutter.text)) (S.AnyStr.few s.cutter.text) (state s.cutter)) };
 
     ghost asked = { λ _. tt };
 

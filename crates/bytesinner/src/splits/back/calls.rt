@@ -2,10 +2,10 @@
 ghost use Rattle.std.specs.Prelude.{◌≡◌, length, refl};
 ghost use Rattle.std.specs.Iterator.{YieldsFirstBy, item_count};
 ghost use Rattle.std.specs.List.{concat};
-ghost use Rattle.cuts.specs.Cuts.{opened};
+ghost use Rattle.cuts.specs.Cuts.{at_opening};
 ghost use Rattle.cuts.proofs.Back.{back_few};
 ghost use Rattle.cutters.specs.Calls.{span};
-ghost use Rattle.bytesinner.specs.splits.Back.{sheet, state, left, CutsBack};
+ghost use Rattle.bytesinner.specs.splits.Back.{opening, state, left, CutsBack};
 
 use super::BackCutter;
 use anystr::anystr::AnyStr;
@@ -21,7 +21,7 @@ impl<S: AnyStr, F: ReverseSearcher<S>> BackCutter<S, F> {
     pub fn open(text: S, searcher: F, bound: i64) -> BackCutter<S, F>
         ensures on { (result.text ≡ text) × (result.searcher ≡ searcher) × (result.bound ≡ bound) }
         ensures place { result.progress.place ≡ length (concat (S.AnyStr.elements text)) }
-        ensures state { state S.AnyStr.elements result ≡ opened }
+        ensures state { state S.AnyStr.elements result ≡ at_opening }
     {
         let place = text.bytes_len();
         BackCutter {
@@ -34,7 +34,7 @@ impl<S: AnyStr, F: ReverseSearcher<S>> BackCutter<S, F> {
 
     // The mark that is cut next before an offset, if one is.
     fn next_mark(&self, before: usize) -> Option<Mark>
-        ensures { CutsBack (sheet F.Searcher.marks S.AnyStr.elements self.now) self.now.progress.made before result }
+        ensures { CutsBack (opening F.Searcher.marks S.AnyStr.elements self.now) self.now.progress.made before result }
     {
         if !fewer(self.progress.made, self.bound) {
             return None;
@@ -74,7 +74,7 @@ impl<S: AnyStr, F: ReverseSearcher<S> + Drop> Iterator for BackCutter<S, F> {
 impl<S: AnyStr, F: ReverseSearcher<S> + Drop> Pieces for BackCutter<S, F> {
     ghost left = { left F.Searcher.marks S.AnyStr.elements };
 
-    ghost few = { λ c. back_few (sheet F.Searcher.marks S.AnyStr.elements c) (F.Searcher.lawful c.searcher (S.AnyStr.elements c.text)) (S.AnyStr.few c.text) (state S.AnyStr.elements c) };
+    ghost few = { λ c. back_few (opening F.Searcher.marks S.AnyStr.elements c) (F.Searcher.lawful c.searcher (S.AnyStr.elements c.text)) (S.AnyStr.few c.text) (state S.AnyStr.elements c) };
 
     ghost asked = { λ _. tt };
 

@@ -2,8 +2,8 @@ use Rattle.std.proofs.Common.{◌≡◌, ℕ, true, Option, Some, None, inl, inr
 use Rattle.std.proofs.lemmas.Int.{to_z-of_z}
 use Rattle.searchers.specs.Marks.{FindsBack}
 use Rattle.searchers.specs.declared.mark.Mark.{Mark}
-use Rattle.cuts.specs.Cuts.{Sheet, fewer}
-use Rattle.bytesinner.specs.splits.Back.{sheet, CutsBack}
+use Rattle.cuts.specs.Cuts.{Opening, fewer}
+use Rattle.bytesinner.specs.splits.Back.{opening, CutsBack}
 use Rattle.bytesinner.proofs.splits.back.BackCutter.next_mark.Goals as goal
 
 pub returns-then-not-fewer : goal.returns-then-not-fewer
@@ -12,7 +12,7 @@ returns-then-not-fewer g c =
     let fits : SFits w64 k.bound = search rules in
     inl (ap (fewer k.progress.made) (sym (to_z-of_z w64 k.bound fits)) ∙ sym c.if-not-fewer.ensures)
 
-found : (on : Sheet) (made before : ℕ) → fewer made on.bound ≡ true → (r : Option Mark) → FindsBack on.marks before r → CutsBack on made before r
+found : (on : Opening) (made before : ℕ) → fewer made on.bound ≡ true → (r : Option Mark) → FindsBack on.marks before r → CutsBack on made before r
 found on made before more None h = inr h
 found on made before more (Some m) h = (more, h)
 
@@ -20,4 +20,4 @@ pub returns : goal.returns
 returns g c =
     let k = c.args.self.now in
     let fits : SFits w64 k.bound = search rules in
-    found (sheet g.F.Searcher.marks g.S.AnyStr.elements k) k.progress.made c.args.before (ap (fewer k.progress.made) (sym (to_z-of_z w64 k.bound fits)) ∙ sym c.if-not-fewer.ensures) c.rfind.result c.rfind.ensures.value
+    found (opening g.F.Searcher.marks g.S.AnyStr.elements k) k.progress.made c.args.before (ap (fewer k.progress.made) (sym (to_z-of_z w64 k.bound fits)) ∙ sym c.if-not-fewer.ensures) c.rfind.result c.rfind.ensures.value

@@ -5,13 +5,13 @@ use Rattle.cuts.specs.Splits.{left_back}
 use Rattle.cuts.proofs.Back.{back_used, back_none, back_cut}
 use Rattle.cutters.specs.Calls.{span}
 use Rattle.cutters.proofs.Yielding.{goes_on}
-use Rattle.bytesinner.specs.splits.Back.{sheet, left}
+use Rattle.bytesinner.specs.splits.Back.{opening, left}
 use Rattle.bytesinner.proofs.splits.back.calls.BackCutterIterator.next.Goals as goal
 
 pub returns-in_default : goal.returns-in_default
 returns-in_default g c =
     let k = c.args.self.now in
-    let on = sheet g.F.Searcher.marks g.S.AnyStr.elements k in
+    let on = opening g.F.Searcher.marks g.S.AnyStr.elements k in
     let law = g.F.Searcher.lawful k.searcher (g.S.AnyStr.elements k.text) in
     let end : c.min-end.result ≡ min k.progress.place (size on) = c.min-end.ensures ∙ ap (min k.progress.place) c.bytes_len.ensures in
     let gave = ⊎_elim (back_used on law k.progress.place k.progress.made k.progress.spent c.if-self.false c.min-end.result end)
@@ -21,7 +21,7 @@ returns-in_default g c =
 pub returns : goal.returns
 returns g c =
     let k = c.args.self.now in
-    let on = sheet g.F.Searcher.marks g.S.AnyStr.elements k in
+    let on = opening g.F.Searcher.marks g.S.AnyStr.elements k in
     let law = g.F.Searcher.lawful k.searcher (g.S.AnyStr.elements k.text) in
     let mark = c.in-Some.mark in
     let end : c.min-end.result ≡ min k.progress.place (size on) = c.min-end.ensures ∙ ap (min k.progress.place) c.bytes_len.ensures in
