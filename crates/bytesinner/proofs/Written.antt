@@ -13,6 +13,7 @@ pub written : (P : List Span → Type 0) (ps : List Span) → P ps → (list lis
 written P ps p list list' (Ok n) h = subst P (sym h.2) p
 written P ps p list list' (Err e) h = tt
 
+-- what can be cut out, stretch by stretch
 module _ (es : List (List ℕ)) where
   pub cuttable-nil : Cuttable es []
   cuttable-nil q h = absurd h

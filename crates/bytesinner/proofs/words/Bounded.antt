@@ -60,6 +60,7 @@ pub record Wanted (rs : List Span) (bound : ℤ) (total a m : ℕ) : Type 0 wher
   pub alone_is : a ≡ alone total bound
   pub is : m ≡ min total (a + 1)
 
+-- as the calls count them
 pub wanted : {rs : List Span} {bound : ℤ} {total a m : ℕ} → total ≡ length rs → SFits w64 bound → a ≡ alone total (to_z w64 (of_z w64 bound)) → m ≡ min total (a + 1) → Wanted rs bound total a m
 wanted {total = total} t fits a m = record { total_is = t; alone_is = a ∙ ap (alone total) (to_z-of_z w64 _ fits); is = m }
 
@@ -68,6 +69,7 @@ pub record Given (m n : ℕ) (list : List Place) : Type 0 where
   pub is : n ≡ m
   pub fits : m ≤ length list
 
+-- a call that passes gives it
 pub given : {m n : ℕ} (list : List Place) → ◌≡◌ {A = Result ℕ (ℕ × ℕ)} (Ok n) (if nat_le m (length list) then Ok m else Err (7, m)) → Given m n list
 given list is = record { is = grind arith; fits = grind arith }
 
