@@ -1,3 +1,4 @@
 pub mod Step
 pub mod Read
 pub mod Cutting
+pub mod OnText
