@@ -1,8 +1,9 @@
 -- The result of translate: what is left of the text by the code's set of the bytes that go, and its laws.
-use Rattle.std.proofs.Common.{◌≡◌, ℕ, ◌≤◌, Bool, List, [], ◌∷◌, map, length, take, None, Option, refl, ap, ◌∙◌}
+use Rattle.std.proofs.Common.{◌≡◌, ℕ, ◌≤◌, Bool, List, [], ◌∷◌, length, take, None, refl, ap, ◌∙◌}
 use Rattle.std.proofs.lemmas.List.{take_all, length-map, get_or-map, map-id}
 use Rattle.searchers.specs.bytesets.Sets.{among}
-use Rattle.bytesinner.specs.tables.Translations.{image, kept, InPlace, Without}
+use Rattle.bytesinner.specs.declared.tables.translate.ByteInnerTranslateOptions.{ByteInnerTranslateOptions}
+use Rattle.bytesinner.specs.tables.Translations.{image, kept, table_in, delete_in, kept_images, InPlace, Without}
 use Rattle.bytesinner.proofs.tables.Counts.{count_kept}
 
 -- the set is made from the whole delete list
@@ -15,8 +16,14 @@ kept-all : (xs : List ℕ) → kept (among []) xs ≡ xs
 kept-all [] = refl
 kept-all (x ∷ xs) = ap (λ r. x ∷ r) (kept-all xs)
 
-pub undeleted : (table : Option (List ℕ)) (delete text : List ℕ) → delete ≡ [] → InPlace table text (map (image table) (kept (among delete) text))
-undeleted table delete text e = rw (e, kept-all text) (length-map text (image table), λ i h. get_or-map (image table) text i 0 0 h)
+-- where no byte is deleted each stands in its place
+pub undeleted : (options : ByteInnerTranslateOptions) (text : List ℕ) → delete_in options ≡ [] → InPlace options text (kept_images options text)
+undeleted options text e =
+    let f = image (table_in options) in
+    rw (e, kept-all text) record { long = length-map text f; maps = λ i h. get_or-map f text i 0 0 h }
 
-pub unmapped : (table : Option (List ℕ)) (delete text : List ℕ) → table ≡ None → Without delete text (map (image table) (kept (among delete) text))
-unmapped table delete text e b = rw (e, map-id (kept (among delete) text)) (count_kept (among delete) b text)
+-- without a table the bytes that are kept stand as often as before
+pub unmapped : (options : ByteInnerTranslateOptions) (text : List ℕ) → table_in options ≡ None → Without options text (kept_images options text)
+unmapped options text e b =
+    let gone = among (delete_in options) in
+    rw (e, map-id (kept gone text)) (count_kept gone b text)
