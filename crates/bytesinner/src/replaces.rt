@@ -14,7 +14,7 @@ use cutters::cutter::Cutter;
 use searchers::substring::Substring;
 use trays::container::AnyStrContainer;
 
-/// The most bytes of a result, so that its length is a signed number of 64 bits.
+/// The most bytes of a result: its length is a signed number of 64 bits.
 pub const MAX_RESULT: u64 = i64::MAX as u64;
 
 // A text, with another in place of a third, as often as the bound allows.
@@ -59,8 +59,10 @@ impl<S: AnyStr> Replacement<S> {
     // Appends the text, which fits, with these copies of `to`: one before each element, and the last at the end.
     fn spread_copies<T: AnyStrContainer>(&self, copies: u64, tray: &mut T)
         requires count { copies ≡ copies_of (length (S.elements self.now.text)) self.now.bound }
-        requires fits { length (copies_spread S.AnyStr self.now) ≤ length (T.contents tray.old).spare }
-        ensures gained { T.contents tray.new ≡ gained (T.contents tray.old) (copies_spread S.AnyStr self.now) }
+        requires fits { length (copies_spread S.AnyStr self.now)
+            ≤ length (T.contents tray.old).spare }
+        ensures gained { T.contents tray.new
+            ≡ gained (T.contents tray.old) (copies_spread S.AnyStr self.now) }
         ensures same_loan { T.loan tray.new ≡ T.loan tray.old }
     {
         // the interface of texts has no iterator over elements, only the element at an offset
@@ -111,9 +113,9 @@ impl<S: AnyStr> Replacement<S> {
 }
 
 /// Appends the text with `to` in place of each occurrence of `from`, as often as `maxcount` allows; no number or a
-/// negative one is no bound. An empty `from` stands before each element and at the end. Refused where the result has more
-/// than `MAX_RESULT` bytes (5), and else where it has more bytes than are free (7, with the bytes needed); the tray then is
-/// as it was.
+/// negative one is no bound. An empty `from` stands before each element and at the end. Refused, and the tray is as it
+/// was, where the result has more than `MAX_RESULT` bytes (5), and else where fewer are free than it has (7, with their
+/// number).
 pub fn replace<S: AnyStr, T: AnyStrContainer>(
     text: &S,
     from: &S,

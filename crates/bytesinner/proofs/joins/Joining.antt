@@ -94,11 +94,12 @@ module _ (sep bytes : List ℕ) (places : List Place) where
       omega (arith, join-sum, bare_fits bytes (stretches places), ap (λ n. n * length bytes) (length-map places stretch))
 
 -- a push of what comes next is taken
-pub took_next : {X : Type 0} (bytes rest : List ℕ) {before : List ℕ} {tray full : Contents} (tray' : Contents) (r : Result X (ℕ × ℕ)) → before ≡ bytes ++ rest → Pouring tray before full
-    → IsFilled (Ok bytes) tray tray' r → Pouring tray' rest full
+pub took_next : {X : Type 0} (bytes rest : List ℕ) {before : List ℕ} {tray full : Contents} (tray' : Contents) (r : Result X (ℕ × ℕ))
+    → before ≡ bytes ++ rest → Pouring tray before full → IsFilled (Ok bytes) tray tray' r → Pouring tray' rest full
 took_next bytes rest {tray = tray} {full = full} tray' r split p push =
     let so_far = rw split at p in
-    pushed tray bytes rest full tray' so_far (took bytes tray tray' r (omega (arith, so_far.room, length-append bytes rest)) push)
+    let fits : length bytes ≤ length tray.spare = omega (arith, so_far.room, length-append bytes rest) in
+    pushed tray bytes rest full tray' so_far (took bytes tray tray' r fits push)
 
 first : (sep x : List ℕ) (xs : List (List ℕ)) (n : ℕ) → n ≤ 0 → rest_of sep n (x ∷ xs) ≡ x ++ behind sep xs
 first sep x xs zero le = first-ahead sep x xs

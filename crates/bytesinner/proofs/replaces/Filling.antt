@@ -18,26 +18,34 @@ use Rattle.bytesinner.specs.replaces.Replaces.{most_result, bound_of, spread, co
 use Rattle.bytesinner.proofs.replaces.Law.{spread-long, spread-within, cut-within, short, is-short}
 
 -- a pour from a cutter that was just opened
-pub opened_pour : {S F C Tray : Type 0} {s : AnyStr.Ghosts S C} {f : Searcher.Ghosts F S C} (contents : Tray → Contents) (c : Cutter S F C s f) (to : S) (tray : Tray) (r : Result (Unit {0}) Refusal) (d : Cutter S F C s f) (tray' : Tray) (on : Opening)
-    → opening c ≡ on → state c ≡ at_opening → Pours contents c to tray r d tray' → Fills contents (Ok (needed on (bytes_of s to) at_opening)) tray tray' r
+pub opened_pour : {S F C Tray : Type 0} {s : AnyStr.Ghosts S C} {f : Searcher.Ghosts F S C} (contents : Tray → Contents)
+    (c : Cutter S F C s f) (to : S) (tray : Tray) (r : Result (Unit {0}) Refusal) (d : Cutter S F C s f) (tray' : Tray) (on : Opening)
+    → opening c ≡ on → state c ≡ at_opening → Pours contents c to tray r d tray'
+    → Fills contents (Ok (needed on (bytes_of s to) at_opening)) tray tray' r
 opened_pour {s = s} contents c to tray r d tray' on is new p =
-    let P : Opening × State → Type 0 = λ o. IsFilled (pour_of o.0 (bytes_of s to) o.1) (contents tray) (contents tray') (coded r) in
-    subst P (λ i. (is i, new i)) p.0
+    let Filled_by : Opening × State → Type 0 =
+    λ o. IsFilled (pour_of o.0 (bytes_of s to) o.1) (contents tray) (contents tray') (coded r) in
+    subst Filled_by (λ i. (is i, new i)) p.0
 
 -- bytes within the limits are appended, or refused with their number
-pub fills : {X : Type 0} (bytes all : List ℕ) (tray tray' : Contents) (r : Result X (ℕ × ℕ)) → bytes ≡ all → length all ≤ most_result → IsFilled (Ok all) tray tray' r → IsFilled (if_short bytes) tray tray' r
+pub fills : {X : Type 0} (bytes all : List ℕ) (tray tray' : Contents) (r : Result X (ℕ × ℕ))
+    → bytes ≡ all → length all ≤ most_result → IsFilled (Ok all) tray tray' r → IsFilled (if_short bytes) tray tray' r
 fills bytes all tray tray' r same le p = rw (same, is-short all le) p
 
 -- the sum that the code forms
-module _ (es : List (List ℕ)) (to : List ℕ) (bound : ℤ) (n len gap : ℕ) (count : n ≡ copies (length es) bound) (bytes : len ≡ length (concat es)) (each : gap ≡ length to) where
+module _ (es : List (List ℕ)) (to : List ℕ) (bound : ℤ) (n len gap : ℕ)
+    (count : n ≡ copies (length es) bound) (bytes : len ≡ length (concat es)) (each : gap ≡ length to) where
   pub spread-sum : len + n * gap ≡ length (spread to bound 0 es)
   spread-sum = rw (count, bytes, each) (sym (spread-long es to bound))
 
   pub spread-fits : Filled es → length (concat es) ≤ most_bytes → length to ≤ most_bytes → len + n * gap ≤ most_result
   spread-fits filled few some = rw spread-sum (short (spread to bound 0 es) (concat es) to few some (spread-within es to bound filled))
 
-pub cut_short : (es : List (List ℕ)) (from to : List ℕ) (bound : ℤ) → length (concat es) ≤ most_bytes → length to ≤ most_bytes → length (cut_out es from to bound) ≤ most_result
-cut_short es from to bound few some = short (cut_out es from to bound) (concat es) to few some (cut-within es from to bound)
+-- what is cut out is within the limits
+pub cut_short : (es : List (List ℕ)) (from to : List ℕ) (bound : ℤ) → length (concat es) ≤ most_bytes
+    → length to ≤ most_bytes → length (cut_out es from to bound) ≤ most_result
+cut_short es from to bound few some =
+    short (cut_out es from to bound) (concat es) to few some (cut-within es from to bound)
 
 -- the bound of maxcount 0
 pub bound-zero : (maxcount : OptionalArg ℤ) (z : ℤ) → maxcount ≡ Present z → z ≡ pos 0 → bound_of maxcount ≡ pos 0

@@ -8,7 +8,8 @@ use Rattle.bytesinner.specs.replaces.Replaces.{spread}
 use Rattle.bytesinner.proofs.replaces.Spreading.{spread_none, spread-more, spread-last}
 
 -- nothing is poured yet
-pub to-come : (tray : Contents) (rest all : List ℕ) → rest ≡ all → length all ≤ length tray.spare → Pouring tray rest (gained tray all)
+pub to-come : (tray : Contents) (rest all : List ℕ) → rest ≡ all → length all ≤ length tray.spare
+    → Pouring tray rest (gained tray all)
 to-come tray rest all same fits = rw same record { room = fits; whole = refl }
 
 -- all is poured

@@ -7,7 +7,8 @@ use Rattle.bytesinner.specs.tables.Translations.{image, kept, table_in, delete_i
 use Rattle.bytesinner.proofs.tables.Counts.{count_kept}
 
 -- the set is made from the whole delete list
-pub kept-is : (gone : ℕ → Bool) (delete ds text bytes : List ℕ) (at : ℕ) → length ds ≤ at → ((b : ℕ) → gone b ≡ among (take at ds) b) → ds ≡ delete → bytes ≡ text → kept gone bytes ≡ kept (among delete) text
+pub kept-is : (gone : ℕ → Bool) (delete ds text bytes : List ℕ) (at : ℕ) → length ds ≤ at
+    → ((b : ℕ) → gone b ≡ among (take at ds) b) → ds ≡ delete → bytes ≡ text → kept gone bytes ≡ kept (among delete) text
 kept-is gone delete ds text bytes at end made whole is =
     let same : (b : ℕ) → gone b ≡ among delete b = λ b. made b ∙ ap (λ xs. among xs b) (take_all at ds end ∙ whole) in
     λ i. kept (λ b. same b i) (is i)
@@ -17,13 +18,15 @@ kept-all [] = refl
 kept-all (x ∷ xs) = ap (λ r. x ∷ r) (kept-all xs)
 
 -- where no byte is deleted each stands in its place
-pub undeleted : (options : ByteInnerTranslateOptions) (text : List ℕ) → delete_in options ≡ [] → InPlace options text (kept_images options text)
+pub undeleted : (options : ByteInnerTranslateOptions) (text : List ℕ) → delete_in options ≡ []
+    → InPlace options text (kept_images options text)
 undeleted options text e =
     let f = image (table_in options) in
     rw (e, kept-all text) record { long = length-map text f; maps = λ i h. get_or-map f text i 0 0 h }
 
 -- without a table the bytes that are kept stand as often as before
-pub unmapped : (options : ByteInnerTranslateOptions) (text : List ℕ) → table_in options ≡ None → Without options text (kept_images options text)
+pub unmapped : (options : ByteInnerTranslateOptions) (text : List ℕ) → table_in options ≡ None
+    → Without options text (kept_images options text)
 unmapped options text e b =
     let gone = among (delete_in options) in
     rw (e, map-id (kept gone text)) (count_kept gone b text)

@@ -7,7 +7,8 @@ use Rattle.trays.specs.Trays.{Contents, gained}
 abbrev pub byte_values : ℕ
 byte_values = 256
 
--- a call that is not refused appends bytes of which this holds to a tray
-abbrev pub Appends : {Tray X : Type 0} → (Tray → Contents) → (tray tray' : Tray) → (List ℕ → Type 0) → Result X Refusal → Type 0
+-- a call that is not refused appends bytes to the tray, of which this holds
+abbrev pub Appends : {Tray X : Type 0} → (Tray → Contents) → (tray tray' : Tray) → (List ℕ → Type 0)
+    → Result X Refusal → Type 0
 Appends contents tray tray' P (Ok _) = (added : List ℕ) × (contents tray' ≡ gained (contents tray) added) × P added
 Appends contents tray tray' P (Err _) = Unit {0}

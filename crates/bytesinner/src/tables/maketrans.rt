@@ -11,8 +11,8 @@ use anystr::refusal::Refusal;
 use trays::container::AnyStrContainer;
 
 /// Appends the table of 256 bytes that maps each byte of `from` to its partner in `to` at its first position in `from`,
-/// and every other byte to itself. Refused where the lists have unequal lengths (3), and else where fewer than 256 bytes
-/// are free (7, with 256); the tray then is as it was.
+/// and every other byte to itself. Refused, and the tray is as it was, where the lists have unequal lengths (3), and
+/// else where fewer than 256 bytes are free (7, with 256).
 pub fn maketrans<T: AnyStrContainer>(
     from: &Bytes<'_>,
     to: &Bytes<'_>,

@@ -17,7 +17,9 @@ use trays::container::AnyStrContainer;
 /// What a text is translated by: a table of 256 bytes, and the bytes to delete. Either may be left out.
 #[derive(Clone, Copy)]
 pub struct ByteInnerTranslateOptions<'a> {
+    /// the image of each byte; left out, each byte is its own
     pub table: Option<&'a [u8]>,
+    /// left out, no byte is deleted
     pub delete: OptionalArg<&'a [u8]>,
 }
 
@@ -46,9 +48,9 @@ fn kept_len(bytes: &[u8], gone: &ByteSet) -> usize
     bytes.iter().filter(|b| !gone.contains(**b)).count()
 }
 
-/// Appends the text without the bytes to delete, each other byte as the table maps it; a table that is left out maps each
-/// to itself. Refused where the table has not exactly 256 bytes (4), and else where fewer bytes are free than stay (7, with
-/// their number); the tray then is as it was.
+/// Appends the text without the bytes to delete, each other byte as the table maps it. Refused, and the tray is as it
+/// was, where the table has not exactly 256 bytes (4), and else where fewer bytes are free than stay (7, with the number
+/// of those that stay).
 pub fn translate<T: AnyStrContainer>(
     text: &Bytes<'_>,
     options: ByteInnerTranslateOptions<'_>,

@@ -26,13 +26,23 @@ loop-index-preserved g c =
     let loan = g.T.AnyStrContainer.loan in
     let full = gained (contents c.args.tray.now) (joined parts) in
     let later = rest_of sep (i + 1) (map (part (concat es)) (stretches (drop (i + 1) places))) in
-    let so_far : g.row.T.Denot → Type 0 = λ t. Pouring (contents t) (part (concat es) (stretch (get_or places i nowhere)) ++ later) full × (loan t ≡ loan c.args.tray.now) in
+    let here = part (concat es) (stretch (get_or places i nowhere)) in
+    let so_far : g.row.T.Denot → Type 0 =
+    λ t. Pouring (contents t) (here ++ later) full × (loan t ≡ loan c.args.tray.now) in
     let mid : so_far c.if-index-gt0.tray = elim c.if-index-gt0.branch [
-      | then-index-gt0 w ↦ subst so_far (sym w.tray-is) (took_next sep _ _ (coded w.push_str.result) (part_more sep (concat es) places i lt w.if-index-gt0.true) inv.poured w.push_str.ensures.fills, w.push_str.ensures.same_loan ∙ inv.same_loan)
-      | else-index-gt0 w ↦ subst so_far (sym w.tray-is) (rw (first-part sep (concat es) places i lt w.if-index-gt0.false) at inv.poured, inv.same_loan)
+      | then-index-gt0 w ↦
+          let ahead = part_more sep (concat es) places i lt w.if-index-gt0.true in
+          let push = w.push_str.ensures in
+          let more = took_next sep _ _ (coded w.push_str.result) ahead inv.poured push.fills in
+          subst so_far (sym w.tray-is) (more, push.same_loan ∙ inv.same_loan)
+      | else-index-gt0 w ↦
+          let same = rw (first-part sep (concat es) places i lt w.if-index-gt0.false) at inv.poured in
+          subst so_far (sym w.tray-is) (same, inv.same_loan)
     ] in
+    let push = c.push_str-in-loop-index.ensures in
+    let same = ap (λ b. b ++ later) (sym is) in
     record {
       good = good_more es places i lt cut ∙ inv.good;
-      poured = took_next _ later _ (coded c.push_str-in-loop-index.result) (ap (λ b. b ++ later) (sym is)) mid.0 c.push_str-in-loop-index.ensures.fills;
-      same_loan = c.push_str-in-loop-index.ensures.same_loan ∙ mid.1;
+      poured = took_next _ later _ (coded c.push_str-in-loop-index.result) same mid.0 push.fills;
+      same_loan = push.same_loan ∙ mid.1;
     }

@@ -13,7 +13,8 @@ abbrev pub invariant-loop-index : goal.invariant-loop-index
 invariant-loop-index g l = record {
   good : first_bad (g.S.AnyStr.elements l.self.text) l.index (stretches (drop l.index l.place-items)) ≡ None;
   poured : Pouring (g.T.AnyStrContainer.contents l.tray)
-      (rest_of (bytes_of g.S.AnyStr l.self.sep) l.index (map (part (bytes_of g.S.AnyStr l.self.text)) (stretches (drop l.index l.place-items))))
+      (rest_of (bytes_of g.S.AnyStr l.self.sep) l.index
+      (map (part (bytes_of g.S.AnyStr l.self.text)) (stretches (drop l.index l.place-items))))
       (gained (g.T.AnyStrContainer.contents l.initial.tray) (joined l.self));
   same_loan : g.T.AnyStrContainer.loan l.tray ≡ g.T.AnyStrContainer.loan l.initial.tray;
 }

@@ -17,4 +17,6 @@ returns-else-not-is_empty-2-clause-fills g c =
     let to = bytes_of g.S.AnyStr r.to in
     let none = eqb-true (length from) 0 (sym c.if-not-is_empty.ensures) in
     let nothing = nil_from_length to (eqb-true (length to) 0 (sym c.if-not-is_empty-2.ensures)) in
-    fills _ (concat es) _ _ (coded c.push_str.result) (at-elements es from to r.bound none ∙ (ap (λ t. spread t r.bound 0 es) nothing ∙ spread-empty r.bound es 0)) (omega (arith, g.S.AnyStr.few r.text)) c.push_str.ensures.fills
+    let empty = ap (λ t. spread t r.bound 0 es) nothing ∙ spread-empty r.bound es 0 in
+    fills _ (concat es) _ _ (coded c.push_str.result) (at-elements es from to r.bound none ∙ empty)
+    (omega (arith, g.S.AnyStr.few r.text)) c.push_str.ensures.fills

@@ -1,4 +1,4 @@
-use Rattle.std.proofs.Common.{◌≡◌, ◌+◌, ◌<◌, [], ◌++◌, length, get_or, sym, refl, ap, ◌∙◌, subst, arith}
+use Rattle.std.proofs.Common.{◌≡◌, suc, ◌+◌, ◌<◌, ◌≤◌, [], ◌++◌, length, get_or, sym, refl, ap, ◌∙◌, subst, arith}
 use Rattle.std.specs.List.{concat}
 use Rattle.anystr.specs.Elements.{Cut, offset}
 use Rattle.anystr.specs.Places.{part}
@@ -20,7 +20,10 @@ pub overflow_add-end : goal.overflow_add-end
 overflow_add-end g c =
     let text = c.args.self.now.text in
     let at = c.in-Some.ensures in
-    omega (arith, (element_here (g.S.AnyStr.elements text) c.loop.counter c.loop.place c.in-Some.len _ (g.S.AnyStr.filled text) c.loop.invariant.place at.element at.len).few, g.S.AnyStr.few text)
+    let filled = g.S.AnyStr.filled text in
+    let e = element_here (g.S.AnyStr.elements text) c.loop.counter c.loop.place c.in-Some.len _ filled
+    c.loop.invariant.place at.element at.len in
+    omega (arith, e.few, g.S.AnyStr.few text)
 
 pub loop-init : goal.loop-init
 loop-init g c =
@@ -40,21 +43,28 @@ loop-preserved g c =
     let contents = g.T.AnyStrContainer.contents in
     let loan = g.T.AnyStrContainer.loan in
     let later = left to es count (k + 1) in
+    let full = gained (contents c.args.tray.now) (copies_spread g.S.AnyStr r) in
+    let filled = g.S.AnyStr.filled r.text in
     let first = c.push_str.ensures in
     let first_loan = first.same_loan ∙ inv.same_loan in
-    let so_far : g.row.T.Denot → Type 0 = λ t. Pouring (contents t) later (gained (contents c.args.tray.now) (copies_spread g.S.AnyStr r)) × (loan t ≡ loan c.args.tray.now) in
+    let so_far : g.row.T.Denot → Type 0 = λ t. Pouring (contents t) later full × (loan t ≡ loan c.args.tray.now) in
     elim c.match-element_at.branch [
       | in-Some w ↦
           let at = w.in-Some.ensures in
-          let e = element_here es k c.loop.place w.in-Some.len _ (g.S.AnyStr.filled r.text) inv.place at.element at.len in
+          let e = element_here es k c.loop.place w.in-Some.len _ filled inv.place at.element at.len in
           let is = concat-part es _ _ _ (w.get_bytes.ensures.given e.cut) ∙ e.bytes in
-          let copied = took_next to (get_or es k [] ++ later) _ (coded c.push_str.result) (copy-ahead to es count k lt e.within) inv.poured first.fills in
+          let ahead = copy-ahead to es count k lt e.within in
+          let copied = took_next to (get_or es k [] ++ later) _ (coded c.push_str.result) ahead inv.poured first.fills in
           let second = w.push_str-in-Some.ensures in
-          let done = subst so_far (sym w.tray-is) (took_next _ later _ (coded w.push_str-in-Some.result) (ap (λ b. b ++ later) (sym is)) copied second.fills, second.same_loan ∙ first_loan) in
+          let same = ap (λ b. b ++ later) (sym is) in
+          let both = took_next _ later _ (coded w.push_str-in-Some.result) same copied second.fills in
+          let done = subst so_far (sym w.tray-is) (both, second.same_loan ∙ first_loan) in
           record { place = w.place-is ∙ e.next; poured = done.0; same_loan = done.1 }
       | in_default w ↦
-          let past = none_here es k c.loop.place (g.S.AnyStr.filled r.text) inv.place w.in_default.ensures.element in
-          let copied = took_next to later _ (coded c.push_str.result) (last-copy to es count k lt (omega (arith, c.requires.count, copies-few (length es) r.bound)) past) inv.poured first.fills in
+          let past = none_here es k c.loop.place filled inv.place w.in_default.ensures.element in
+          let few : count ≤ suc (length es) = omega (arith, c.requires.count, copies-few (length es) r.bound) in
+          let last = last-copy to es count k lt few past in
+          let copied = took_next to later _ (coded c.push_str.result) last inv.poured first.fills in
           let done = subst so_far (sym w.tray-is) (copied, first_loan) in
           record {
             place = w.place-is ∙ (inv.place ∙ (offset-all es k past ∙ sym (offset-all es (k + 1) (omega arith))));
@@ -75,6 +85,9 @@ returns g c =
       start = (k, sym inv.place);
       end = ((end_on es).0, (end_on es).1 ∙ sym len);
     } in
-    let is = concat-part es _ _ _ (c.get_bytes-2.ensures.given cut) ∙ (ap (λ a. part (concat es) (a, c.bytes_len.result)) inv.place ∙ (ap (λ b. part (concat es) (offset es k, b)) len ∙ rest-bytes es k)) in
-    let done = took_next _ [] _ (coded c.push_str-2.result) (no-copy (bytes_of g.S.AnyStr r.to) es c.args.copies k c.loop-test.false ∙ ap (λ b. b ++ []) (sym is)) inv.poured c.push_str-2.ensures.fills in
-    record { gained = all_poured _ _ done; same_loan = c.push_str-2.ensures.same_loan ∙ inv.same_loan }
+    let part_is = ap (λ a. part (concat es) (a, c.bytes_len.result)) inv.place ∙ ap (λ b. part (concat es) (offset es k, b)) len in
+    let is = concat-part es _ _ _ (c.get_bytes-2.ensures.given cut) ∙ (part_is ∙ rest-bytes es k) in
+    let last = no-copy (bytes_of g.S.AnyStr r.to) es c.args.copies k c.loop-test.false ∙ ap (λ b. b ++ []) (sym is) in
+    let push = c.push_str-2.ensures in
+    let done = took_next _ [] _ (coded c.push_str-2.result) last inv.poured push.fills in
+    record { gained = all_poured _ _ done; same_loan = push.same_loan ∙ inv.same_loan }

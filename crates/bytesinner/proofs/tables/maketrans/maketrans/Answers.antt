@@ -15,7 +15,8 @@ use Rattle.bytesinner.proofs.tables.Partners.{partners_none, partners_turn, part
 use Rattle.bytesinner.proofs.tables.maketrans.maketrans.Goals as goal
 
 -- what holds of bytes that are pushed holds of those that are appended
-pushed_appends : {Tray X : Type 0} (contents : Tray → Contents) (P : List ℕ → Type 0) (bytes : List ℕ) (tray tray' : Tray) (r : Result X Refusal) → P bytes → Fills contents (Ok bytes) tray tray' r → Appends contents tray tray' P r
+pushed_appends : {Tray X : Type 0} (contents : Tray → Contents) (P : List ℕ → Type 0) (bytes : List ℕ) (tray tray' : Tray)
+    (r : Result X Refusal) → P bytes → Fills contents (Ok bytes) tray tray' r → Appends contents tray tray' P r
 pushed_appends contents P bytes tray tray' (Ok _) holds p = (bytes, p.1, holds)
 pushed_appends contents P bytes tray tray' (Err _) holds p = tt
 
@@ -63,8 +64,12 @@ returns g c =
     let shown : concat (singles c.new.result.bytes.now) ≡ table_from from to = ap concat (c.new.ensures.given (omega (arith, inv.0))) ∙ (concat-singles table ∙ made) in
     let p = rw shown at c.push_str.ensures.fills in
     let same : (length from == length to) ≡ true = eq-eqb (length from) (length to) inv.1 in
+    let contents = g.T.AnyStrContainer.contents in
+    let tray = c.args.tray.now in
+    let after = c.push_str.new.self in
+    let maps = maps_first from to inv.1 in
     record {
       fills = rw same p;
       same_loan = c.push_str.ensures.same_loan;
-      first = pushed_appends g.T.AnyStrContainer.contents (MapsFirst from to) (table_from from to) c.args.tray.now c.push_str.new.self c.push_str.result (maps_first from to inv.1) p;
+      first = pushed_appends contents (MapsFirst from to) (table_from from to) tray after c.push_str.result maps p;
     }

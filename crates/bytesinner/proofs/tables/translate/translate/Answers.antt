@@ -12,11 +12,14 @@ use Rattle.bytesinner.proofs.tables.translate.translate.Goals as goal
 pub returns-then-needed-free-clause-fills : goal.returns-then-needed-free-clause-fills
 returns-then-needed-free-clause-fills g c =
     let text = c.args.text.now.bytes.now in
+    let bytes = c.as_bytes-bytes.result.now in
     let delete = delete_in c.args.options in
-    let is =
-    ap length (kept-is (member c.loop-d.gone.has) delete c.in_ok-table.delete.now text c.as_bytes-bytes.result.now c.loop-d.d-index c.loop-d-test.false c.loop-d.invariant c.in_ok-table.ensures.goes (c.as_bytes-bytes.ensures ∙ concat-singles text)) in
+    let meant = c.in_ok-table.ensures in
+    let shown : bytes ≡ text = c.as_bytes-bytes.ensures ∙ concat-singles text in
+    let is = ap length (kept-is (member c.loop-d.gone.has) delete c.in_ok-table.delete.now text bytes c.loop-d.d-index
+    c.loop-d-test.false c.loop-d.invariant meant.goes shown) in
     let long = length-map (kept (among delete) text) (image (table_in c.args.options)) in
-    rw c.in_ok-table.ensures.long (omega arith, cc, refl)
+    rw meant.long (omega arith, cc, refl)
 
 -- a byte that stays has room
 pub returns-in_err-push_str-clause-fills : goal.returns-in_err-push_str-clause-fills
@@ -28,7 +31,8 @@ returns-in_err-push_str-clause-fills g c =
     let tray = g.T.AnyStrContainer.contents c.args.tray.now in
     let room = length-done f gone bytes c.loop-b.b-index c.loop-b-test.true (search rules) in
     let left = ap (λ t. length t.spare) c.loop-b.invariant.gained in
-    let one : length (concat (singles c.new.result.bytes.now)) ≡ 1 = ap (λ es. length (concat es)) (c.new.ensures.given (omega arith)) in
+    let one : length (concat (singles c.new.result.bytes.now)) ≡ 1 =
+    ap (λ es. length (concat es)) (c.new.ensures.given (omega arith)) in
     absurd (omega (arith, length-drop (length so_far) tray.spare, c.in_err-push_str.ensures.fills.0))
 
 pub returns : goal.returns
@@ -38,14 +42,17 @@ returns g c =
     let options = c.args.options in
     let inv = c.loop-b.invariant in
     let tray = g.T.AnyStrContainer.contents c.args.tray.now in
-    let is =
-    kept-is (member c.loop-d.gone.has) (delete_in options) c.in_ok-table.delete.now text bytes c.loop-d.d-index c.loop-d-test.false c.loop-d.invariant c.in_ok-table.ensures.goes (c.as_bytes-bytes.ensures ∙ concat-singles text) in
+    let meant = c.in_ok-table.ensures in
+    let shown : bytes ≡ text = c.as_bytes-bytes.ensures ∙ concat-singles text in
+    let is = kept-is (member c.loop-d.gone.has) (delete_in options) c.in_ok-table.delete.now text bytes c.loop-d.d-index
+    c.loop-d-test.false c.loop-d.invariant meant.goes shown in
     let images = kept_images options text in
-    let made : g.T.AnyStrContainer.contents c.loop-b.tray ≡ gained tray images = rw (take_all c.loop-b.b-index bytes c.loop-b-test.false, is) at inv.gained in
+    let made : g.T.AnyStrContainer.contents c.loop-b.tray ≡ gained tray images =
+    rw (take_all c.loop-b.b-index bytes c.loop-b-test.false, is) at inv.gained in
     let long = length-map (kept (among (delete_in options)) text) (image (table_in options)) in
     let fits : length images ≤ length tray.spare = omega (arith, ap length is) in
     record {
-      fills = rw c.in_ok-table.ensures.long (fits, made);
+      fills = rw meant.long (fits, made);
       same_loan = inv.same_loan;
       place = λ e. (images, made, undeleted options text e);
       gone = λ e. (images, made, unmapped options text e);

@@ -12,6 +12,7 @@ invariant-loop-d g l = (b : ℕ) → member l.gone.has b ≡ among (take l.d-ind
 abbrev pub invariant-loop-b : goal.invariant-loop-b
 invariant-loop-b g l = record {
   gained : g.T.AnyStrContainer.contents l.tray
-      ≡ gained (g.T.AnyStrContainer.contents l.initial.tray) (done (image (table_in l.options)) (member l.gone.has) l.bytes l.b-index);
+      ≡ gained (g.T.AnyStrContainer.contents l.initial.tray)
+      (done (image (table_in l.options)) (member l.gone.has) l.bytes l.b-index);
   same_loan : g.T.AnyStrContainer.loan l.tray ≡ g.T.AnyStrContainer.loan l.initial.tray;
 }
