@@ -4,3 +4,4 @@ pub mod Elements
 pub mod OfBytes
 pub mod Indices
 pub mod Places
+pub mod Texts

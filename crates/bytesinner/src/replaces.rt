@@ -1,10 +1,10 @@
 // A text with another in place of a third.
 
 ghost use Rattle.std.specs.Prelude.{◌≡◌, ◌≤◌, length};
-ghost use Rattle.std.specs.List.{concat};
-ghost use Rattle.trays.specs.Trays.{Fills, Grown, OnTray};
+ghost use Rattle.anystr.specs.Texts.{bytes_of};
+ghost use Rattle.trays.specs.Trays.{Fills, gained};
 ghost use Rattle.bytesinner.specs.replaces.Replaces.{bound_of, copies as copies_of, if_short, replace_of, ReplaceLaw};
-ghost use Rattle.bytesinner.specs.replaces.Replacements.{marks_replaced, copies_spread};
+ghost use Rattle.bytesinner.specs.replaces.Replacements.{marks_replaced, copies_spread, all_replaced};
 
 use anystr::anystr::AnyStr;
 use anystr::optional::OptionalArg;
@@ -14,7 +14,7 @@ use cutters::cutter::Cutter;
 use searchers::substring::Substring;
 use trays::container::AnyStrContainer;
 
-// The most bytes of a result.
+/// The most bytes of a result: its length is a signed number of 64 bits.
 pub const MAX_RESULT: u64 = i64::MAX as u64;
 
 // A text, with another in place of a third, as often as the bound allows.
@@ -29,7 +29,9 @@ struct Replacement<S: AnyStr> {
 impl<S: AnyStr> Replacement<S> {
     // The text with `to` in place of the occurrences of a nonempty `from`.
     fn replace_marks<T: AnyStrContainer>(&self, tray: &mut T) -> Result<(), Refusal>
-        ensures { OnTray (Fills (if_short (marks_replaced S.AnyStr.elements self.now))) T.AnyStrContainer.held T.AnyStrContainer.spare tray.old tray.new result }
+        ensures fills { Fills T.contents (if_short (marks_replaced S.AnyStr self.now))
+            tray.old tray.new result }
+        ensures same_loan { T.loan tray.new ≡ T.loan tray.old }
     {
         let mut cutter = Cutter::open(self.text, Substring::new(self.from), self.bound);
         match cutter.pour(&self.to, tray) {
@@ -40,7 +42,7 @@ impl<S: AnyStr> Replacement<S> {
 
     // The copies of `to` before the elements of the text and at its end.
     fn copies(&self) -> u64
-        ensures { result ≡ copies_of (length (S.AnyStr.elements self.now.text)) self.now.bound }
+        ensures { result ≡ copies_of (length (S.elements self.now.text)) self.now.bound }
     {
         let gaps = self.text.element_count() as u64 + 1;
         u64::try_from(self.bound).map_or(gaps, |bound| gaps.min(bound))
@@ -48,17 +50,20 @@ impl<S: AnyStr> Replacement<S> {
 
     // The bytes that the text takes with these copies of `to`, which are counted once: that goes over the text.
     fn measure(&self, copies: u64) -> u64
-        requires { copies ≡ copies_of (length (S.AnyStr.elements self.now.text)) self.now.bound }
-        ensures { result ≡ length (copies_spread S.AnyStr.elements self.now) }
+        requires { copies ≡ copies_of (length (S.elements self.now.text)) self.now.bound }
+        ensures { result ≡ length (copies_spread S.AnyStr self.now) }
     {
         self.text.bytes_len() as u64 + copies * self.to.bytes_len() as u64
     }
 
     // Appends the text, which fits, with these copies of `to`: one before each element, and the last at the end.
     fn spread_copies<T: AnyStrContainer>(&self, copies: u64, tray: &mut T)
-        requires count { copies ≡ copies_of (length (S.AnyStr.elements self.now.text)) self.now.bound }
-        requires fits { length (copies_spread S.AnyStr.elements self.now) ≤ length (T.AnyStrContainer.spare tray.old) }
-        ensures { Grown T.AnyStrContainer.held T.AnyStrContainer.spare (copies_spread S.AnyStr.elements self.now) tray.old tray.new }
+        requires count { copies ≡ copies_of (length (S.elements self.now.text)) self.now.bound }
+        requires fits { length (copies_spread S.AnyStr self.now)
+            ≤ length (T.contents tray.old).spare }
+        ensures gained { T.contents tray.new
+            ≡ gained (T.contents tray.old) (copies_spread S.AnyStr self.now) }
+        ensures same_loan { T.loan tray.new ≡ T.loan tray.old }
     {
         // the interface of texts has no iterator over elements, only the element at an offset
         let mut place = 0;
@@ -75,7 +80,9 @@ impl<S: AnyStr> Replacement<S> {
 
     // The text with `to` before each element and at the end.
     fn replace_empty<T: AnyStrContainer>(&self, tray: &mut T) -> Result<(), Refusal>
-        ensures { OnTray (Fills (if_short (copies_spread S.AnyStr.elements self.now))) T.AnyStrContainer.held T.AnyStrContainer.spare tray.old tray.new result }
+        ensures fills { Fills T.contents (if_short (copies_spread S.AnyStr self.now))
+            tray.old tray.new result }
+        ensures same_loan { T.loan tray.new ≡ T.loan tray.old }
     {
         let copies = self.copies();
         let needed = self.measure(copies);
@@ -91,7 +98,9 @@ impl<S: AnyStr> Replacement<S> {
 
     // The text with `to` in place of `from`.
     fn replace<T: AnyStrContainer>(&self, tray: &mut T) -> Result<(), Refusal>
-        ensures { OnTray (Fills (replace_of (S.AnyStr.elements self.now.text) (concat (S.AnyStr.elements self.now.from)) (concat (S.AnyStr.elements self.now.to)) self.now.bound)) T.AnyStrContainer.held T.AnyStrContainer.spare tray.old tray.new result }
+        ensures fills { Fills T.contents (if_short (all_replaced S.AnyStr self.now))
+            tray.old tray.new result }
+        ensures same_loan { T.loan tray.new ≡ T.loan tray.old }
     {
         if !self.from.is_empty() {
             self.replace_marks(tray)
@@ -103,9 +112,10 @@ impl<S: AnyStr> Replacement<S> {
     }
 }
 
-// Appends the text with `to` in place of each occurrence of `from`, as often as `maxcount` allows; no number or a
-// negative one is no bound. An empty `from` stands before each element and at the end. Refused, and the tray is as
-// it was, where the result has too many bytes for its length to be signed or more than are free.
+/// Appends the text with `to` in place of each occurrence of `from`, as often as `maxcount` allows; no number or a
+/// negative one is no bound. An empty `from` stands before each element and at the end. Refused, and the tray is as it
+/// was, where the result has more than `MAX_RESULT` bytes (5), and else where fewer are free than it has (7, with their
+/// number).
 pub fn replace<S: AnyStr, T: AnyStrContainer>(
     text: &S,
     from: &S,
@@ -113,8 +123,11 @@ pub fn replace<S: AnyStr, T: AnyStrContainer>(
     maxcount: OptionalArg<i64>,
     tray: &mut T,
 ) -> Result<(), Refusal>
-    ensures filled { OnTray (Fills (replace_of (S.AnyStr.elements text.now) (concat (S.AnyStr.elements from.now)) (concat (S.AnyStr.elements to.now)) (bound_of maxcount))) T.AnyStrContainer.held T.AnyStrContainer.spare tray.old tray.new result }
-    ensures law { ReplaceLaw (S.AnyStr.elements text.now) (concat (S.AnyStr.elements from.now)) (concat (S.AnyStr.elements to.now)) (bound_of maxcount) }
+    ensures fills { Fills T.contents (replace_of (S.elements text.now) (bytes_of S.AnyStr from.now)
+        (bytes_of S.AnyStr to.now) (bound_of maxcount)) tray.old tray.new result }
+    ensures same_loan { T.loan tray.new ≡ T.loan tray.old }
+    ensures law { ReplaceLaw (S.elements text.now) (bytes_of S.AnyStr from.now)
+        (bytes_of S.AnyStr to.now) (bound_of maxcount) }
 {
     let bound = match maxcount {
         OptionalArg::Present(count) if count == 0 => return tray.push_str(text),

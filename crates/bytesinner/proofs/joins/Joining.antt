@@ -1,14 +1,13 @@
 -- What comes in a join from one of its places on, and how many bytes a join can take.
-use Rattle.std.proofs.Common.{◌≡◌, ℕ, zero, suc, ◌+◌, ◌-◌, ◌*◌, ◌^◌, ◌<◌, ◌≤◌, List, [], ◌∷◌, ◌++◌, map, length, get_or, drop, Some, None, Result, sym, refl, ap, ◌∙◌, append-nil, suc-mul, mul-le-mul, zero-mul, add-one, arith, length-append, length-drop, length-take}
+use Rattle.std.proofs.Common.{◌≡◌, ℕ, zero, suc, ◌+◌, ◌-◌, ◌*◌, ◌^◌, ◌<◌, ◌≤◌, List, [], ◌∷◌, ◌++◌, map, length, get_or, drop, Some, None, Ok, Result, sym, refl, ap, ◌∙◌, append-nil, suc-mul, mul-le-mul, zero-mul, add-one, arith, length-append, length-drop, length-take}
 use Rattle.std.specs.List.{concat}
 use Rattle.std.proofs.lemmas.List.{drop_more, length-map}
 use Rattle.anystr.specs.Elements.{Cut}
 use Rattle.anystr.specs.Limits.{most_bytes}
 use Rattle.anystr.specs.Places.{stretch, stretches, part, with_between, join_parts}
 use Rattle.anystr.specs.declared.place.Place.{Place}
-use Rattle.anystr.specs.declared.refusal.Refusal.{Refusal}
-use Rattle.trays.specs.Trays.{Pushed}
-use Rattle.trays.proofs.Pushes.{took}
+use Rattle.trays.specs.Trays.{Contents, IsFilled}
+use Rattle.trays.proofs.Gains.{took}
 use Rattle.cutters.proofs.Pouring.{Pouring, pushed}
 use Rattle.bytesinner.specs.joins.Joins.{most_places, first_bad}
 use Rattle.bytesinner.proofs.joins.Places.{passes, stops, none-bad, part-long}
@@ -95,12 +94,12 @@ module _ (sep bytes : List ℕ) (places : List Place) where
       omega (arith, join-sum, bare_fits bytes (stretches places), ap (λ n. n * length bytes) (length-map places stretch))
 
 -- a push of what comes next is taken
-pub took_next : {X : Type 0} (bytes rest : List ℕ) {before held spare all spare₀ : List ℕ} {total : ℕ} (held' spare' : List ℕ) (r : Result X Refusal) → before ≡ bytes ++ rest → Pouring held spare before all spare₀ total
-    → Pushed bytes held spare held' spare' r → Pouring held' spare' rest all spare₀ total
-took_next bytes rest {held = held} {spare = spare} {all = all} {spare₀ = spare₀} {total = total} held' spare' r split p push =
+pub took_next : {X : Type 0} (bytes rest : List ℕ) {before : List ℕ} {tray full : Contents} (tray' : Contents) (r : Result X (ℕ × ℕ))
+    → before ≡ bytes ++ rest → Pouring tray before full → IsFilled (Ok bytes) tray tray' r → Pouring tray' rest full
+took_next bytes rest {tray = tray} {full = full} tray' r split p push =
     let so_far = rw split at p in
-    let t = took bytes held spare held' spare' r (omega (arith, so_far.room, length-append bytes rest)) push in
-    pushed held spare bytes rest all spare₀ held' spare' total so_far t.0 t.1
+    let fits : length bytes ≤ length tray.spare = omega (arith, so_far.room, length-append bytes rest) in
+    pushed tray bytes rest full tray' so_far (took bytes tray tray' r fits push)
 
 first : (sep x : List ℕ) (xs : List (List ℕ)) (n : ℕ) → n ≤ 0 → rest_of sep n (x ∷ xs) ≡ x ++ behind sep xs
 first sep x xs zero le = first-ahead sep x xs

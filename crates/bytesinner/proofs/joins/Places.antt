@@ -1,9 +1,8 @@
 -- Places in a text: what the tests of boundaries and of places say.
-use Rattle.std.proofs.Common.{◌≡◌, ℕ, zero, suc, ◌-◌, ◌≤◌, true, ◌&&◌, eqb, leb, List, [], ◌∷◌, ◌++◌, length, take, drop, Some, None, sym, ap, ◌∙◌, ⊎_elim, arith, length-append, length-drop, take-append-drop, length-take}
+use Rattle.std.proofs.Common.{◌≡◌, ℕ, suc, ◌-◌, true, List, ◌∷◌, length, drop, Some, None, sym, ◌∙◌, ⊎_elim, arith, length-drop, length-take}
 use Rattle.std.specs.List.{concat}
-use Rattle.std.proofs.lemmas.List.Folds.{concat-append}
-use Rattle.std.proofs.lemmas.Bool.{cond-true, cond-false, le-leb, leb-true, eq-eqb, eqb-true, ne_eqb, and_parts, and_from, cases_eq, cases_Bool}
-use Rattle.anystr.specs.Elements.{offset, Boundary, Cut}
+use Rattle.std.proofs.lemmas.Bool.{cond-true, cond-false, le-leb, leb-true, and_parts, and_from, cases_Bool}
+use Rattle.anystr.specs.Elements.{Cut}
 use Rattle.anystr.proofs.Boundaries.{boundary_from, boundary_true, offset-within}
 use Rattle.bytesinner.specs.joins.Joins.{can_cut, first_bad}
 use Rattle.anystr.specs.Places.{part}

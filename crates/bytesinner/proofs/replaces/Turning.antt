@@ -2,19 +2,21 @@
 use Rattle.std.proofs.Common.{◌≡◌, ℕ, suc, ◌+◌, ◌<◌, ◌≤◌, List, [], ◌++◌, length, get_or, drop, pos, sym, refl, ap, ◌∙◌, append-nil, add-one, arith}
 use Rattle.std.specs.List.{concat}
 use Rattle.std.proofs.lemmas.List.{drop_more, drop_all}
+use Rattle.trays.specs.Trays.{Contents, gained}
 use Rattle.cutters.proofs.Pouring.{Pouring}
 use Rattle.bytesinner.specs.replaces.Replaces.{spread}
 use Rattle.bytesinner.proofs.replaces.Spreading.{spread_none, spread-more, spread-last}
 
 -- nothing is poured yet
-pub to-come : (held spare rest all : List ℕ) → rest ≡ all → length all ≤ length spare → Pouring held spare rest (held ++ all) spare (length all)
-to-come held spare rest all same fits = rw same record { whole = refl; room = fits; gone = 0; left = refl; count = omega arith }
+pub to-come : (tray : Contents) (rest all : List ℕ) → rest ≡ all → length all ≤ length tray.spare
+    → Pouring tray rest (gained tray all)
+to-come tray rest all same fits = rw same record { room = fits; whole = refl }
 
 -- all is poured
-pub all_poured : (held spare all spare₀ : List ℕ) (total : ℕ) → Pouring held spare [] all spare₀ total → (held ≡ all) × (spare ≡ drop total spare₀)
-all_poured held spare all spare₀ total p =
-    let n : p.gone ≡ total = omega (arith, p.count) in
-    (sym (append-nil held) ∙ p.whole, p.left ∙ ap (λ k. drop k spare₀) n)
+pub all_poured : (tray full : Contents) → Pouring tray [] full → tray ≡ full
+all_poured tray full p =
+    let same : gained tray [] ≡ tray = λ i. record { held = append-nil tray.held i; spare = tray.spare } in
+    sym same ∙ p.whole
 
 -- what is left after n turns
 abbrev pub left : List ℕ → List (List ℕ) → ℕ → ℕ → List ℕ

@@ -1,5 +1,5 @@
 -- Parts of a text, joined with another between them. Assumes nothing.
-use Rattle.std.specs.Prelude.{◌≡◌, ℕ, suc, ◌+◌, ◌-◌, ◌*◌, ◌<◌, Bool, true, cond, ◌&&◌, List, [], ◌∷◌, map, length, Some, None, Ok, Err, Option, Result, ◌==◌, nat_le, nat_lt, slice_index_or}
+use Rattle.std.specs.Prelude.{◌≡◌, ℕ, suc, ◌+◌, ◌-◌, ◌*◌, ◌<◌, Bool, cond, ◌&&◌, List, [], ◌∷◌, map, length, Some, None, Ok, Err, Option, Result, nat_le, nat_lt, slice_index_or}
 use Rattle.std.specs.List.{concat}
 use Rattle.anystr.specs.Elements.{Cut, on_boundary}
 use Rattle.anystr.specs.Limits.{most_bytes}
@@ -25,7 +25,8 @@ unless_bad (Some at) x = Err (12, at)
 
 -- join: its bytes, or its refusal
 abbrev pub join_of : List ℕ → List (List ℕ) → List (ℕ × ℕ) → Result (List ℕ) (ℕ × ℕ)
-join_of sep es ps = cond (nat_lt most_places (length ps)) (Err (6, 0)) (unless_bad (first_bad es 0 ps) (join_parts sep (concat es) ps))
+join_of sep es ps =
+    cond (nat_lt most_places (length ps)) (Err (6, 0)) (unless_bad (first_bad es 0 ps) (join_parts sep (concat es) ps))
 
 -- a place that can be cut out of the text
 abbrev pub Good : List (List ℕ) → ℕ × ℕ → Type 0
@@ -45,4 +46,5 @@ Judged es ps (Some i) = BadAt es ps i
 -- the law of a join: the place that it refuses, and that it takes the bytes of the parts and a separator fewer
 pub record JoinLaw (sep : List ℕ) (es : List (List ℕ)) (ps : List (ℕ × ℕ)) : Type 0 where
   pub judged : Judged es ps (first_bad es 0 ps)
-  pub size : length (join_parts sep (concat es) ps) ≡ length (concat (map (part (concat es)) ps)) + (length ps - 1) * length sep
+  pub size : length (join_parts sep (concat es) ps)
+      ≡ length (concat (map (part (concat es)) ps)) + (length ps - 1) * length sep

@@ -25,8 +25,11 @@ pub record FirstAt (xs : List ℕ) (b i : ℕ) : Type 0 where
 
 -- an entry of a table: a byte that `from` has goes to the byte of `to` at its first position, any other to itself
 abbrev pub Entry : (from to : List ℕ) → (b entry : ℕ) → Type 0
-Entry from to b entry = ((i : ℕ) → FirstAt from b i → entry ≡ slice_index to i) × (((i : ℕ) → i < length from → slice_index from i ≢ b) → entry ≡ b)
+Entry from to b entry =
+    ((i : ℕ) → FirstAt from b i → entry ≡ slice_index to i)
+    × (((i : ℕ) → i < length from → slice_index from i ≢ b) → entry ≡ b)
 
 -- a table has such an entry for every byte
 abbrev pub MapsFirst : (from to table : List ℕ) → Type 0
-MapsFirst from to table = (length table ≡ byte_values) × ((b : ℕ) → b < byte_values → Entry from to b (slice_index table b))
+MapsFirst from to table =
+    (length table ≡ byte_values) × ((b : ℕ) → b < byte_values → Entry from to b (slice_index table b))

@@ -1,5 +1,5 @@
 -- The result of translate. Assumes nothing.
-use Rattle.std.specs.Prelude.{◌≡◌, ℕ, ◌<◌, Bool, true, cond, not, List, [], map, length, Some, None, Ok, Err, filter, count_by, Option, Result, ◌==◌, slice_index}
+use Rattle.std.specs.Prelude.{◌≡◌, ℕ, ◌<◌, Bool, true, if◌then◌else◌, not, List, [], map, length, Some, None, Ok, Err, filter, count_by, Option, Result, ◌==◌, slice_index}
 use Rattle.anystr.specs.declared.optional.OptionalArg.{OptionalArg}
 use Rattle.anystr.specs.declared.optional.OptionalArg.TheVariants.{Present, Missing}
 use Rattle.searchers.specs.bytesets.Sets.{among}
@@ -17,46 +17,46 @@ abbrev pub full : Option (List ℕ) → Bool
 full None = true
 full (Some table) = length table == byte_values
 
--- the bytes of a delete list; an absent list deletes none
-abbrev pub listed : OptionalArg (List ℕ) → List ℕ
-listed Missing = []
-listed (Present bytes) = bytes
-
 -- the bytes that are not gone
 abbrev pub kept : (gone : ℕ → Bool) → List ℕ → List ℕ
 kept gone bytes = filter (λ b. not (gone b)) bytes
 
--- what is kept of a text, each byte as the table maps it; or the refusal of a table
-abbrev pub translate_of : Option (List ℕ) → OptionalArg (List ℕ) → List ℕ → Result (List ℕ) (ℕ × ℕ)
-translate_of table delete bytes = cond (full table) (Ok (map (image table) (kept (among (listed delete)) bytes))) (Err (4, 0))
-
--- a lent list that may be left out, as the list
-abbrev pub given : {T : Type 0} → (T → List ℕ) → OptionalArg T → OptionalArg (List ℕ)
-given bytes Missing = Missing
-given bytes (Present x) = Present (bytes x)
+-- the bytes of a lent list; one that is left out has none
+abbrev pub listed : {T : Type 0} → (T → List ℕ) → OptionalArg T → List ℕ
+listed bytes Missing = []
+listed bytes (Present x) = bytes x
 
 -- the table that the options lend
 abbrev pub table_in : ByteInnerTranslateOptions → Option (List ℕ)
 table_in options = option_map (λ t. t.now) options.table
 
--- the delete list that the options lend
-abbrev pub delete_in : ByteInnerTranslateOptions → OptionalArg (List ℕ)
-delete_in options = given (λ d. d.now) options.delete
+-- the bytes that the options delete
+abbrev pub delete_in : ByteInnerTranslateOptions → List ℕ
+delete_in options = listed (λ d. d.now) options.delete
+
+-- what is kept of a text, each byte as the table maps it
+abbrev pub kept_images : ByteInnerTranslateOptions → List ℕ → List ℕ
+kept_images options bytes = map (image (table_in options)) (kept (among (delete_in options)) bytes)
+
+-- translate: its bytes, or the refusal of a table
+abbrev pub translate_of : ByteInnerTranslateOptions → List ℕ → Result (List ℕ) (ℕ × ℕ)
+translate_of options bytes = if full (table_in options) then Ok (kept_images options bytes) else Err (4, 0)
 
 -- the code's table and its delete list are what options mean
 pub record Meant (options : ByteInnerTranslateOptions) (table delete : List ℕ) : Type 0 where
   pub long : full (table_in options) ≡ true
   pub maps : (b : ℕ) → b < byte_values → slice_index table b ≡ image (table_in options) b
-  pub goes : delete ≡ listed (delete_in options)
+  pub goes : delete ≡ delete_in options
 
--- each byte of a text stands in its place as a table maps it
-abbrev pub InPlace : Option (List ℕ) → (bytes added : List ℕ) → Type 0
-InPlace table bytes added = (length added ≡ length bytes) × ((i : ℕ) → i < length bytes → slice_index added i ≡ image table (slice_index bytes i))
+-- each byte of a text stands in its place as the table maps it
+pub record InPlace (options : ByteInnerTranslateOptions) (bytes added : List ℕ) : Type 0 where
+  pub long : length added ≡ length bytes
+  pub maps : (i : ℕ) → i < length bytes → slice_index added i ≡ image (table_in options) (slice_index bytes i)
 
 -- how often a byte stands in a text
 abbrev pub times : ℕ → List ℕ → ℕ
 times b xs = count_by (λ x. b == x) xs
 
 -- the deleted bytes are gone, and each other byte stands as often as in the text
-abbrev pub Without : (delete bytes added : List ℕ) → Type 0
-Without delete bytes added = (b : ℕ) → times b added ≡ cond (among delete b) 0 (times b bytes)
+abbrev pub Without : ByteInnerTranslateOptions → (bytes added : List ℕ) → Type 0
+Without options bytes added = (b : ℕ) → times b added ≡ (if among (delete_in options) b then 0 else times b bytes)

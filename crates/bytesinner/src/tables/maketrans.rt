@@ -1,5 +1,6 @@
 // How a table is made from two lists of bytes.
-ghost use Rattle.trays.specs.Trays.{Fills, OnTray};
+ghost use Rattle.std.specs.Prelude.{◌≡◌};
+ghost use Rattle.trays.specs.Trays.{Fills};
 ghost use Rattle.bytesinner.specs.tables.Tables.{Appends};
 ghost use Rattle.bytesinner.specs.tables.Maketrans.{maketrans_of, MapsFirst};
 
@@ -9,16 +10,19 @@ use anystr::bytes::Bytes;
 use anystr::refusal::Refusal;
 use trays::container::AnyStrContainer;
 
-// Appends the table of 256 bytes that maps each byte of `from` to its partner in `to` at its first position in `from`,
-// and every other byte to itself. Refused, and nothing changes, where the lists have unequal lengths or the tray
-// has too few free bytes.
+/// Appends the table of 256 bytes that maps each byte of `from` to its partner in `to` at its first position in `from`,
+/// and every other byte to itself. Refused, and the tray is as it was, where the lists have unequal lengths (3), and
+/// else where fewer than 256 bytes are free (7, with 256).
 pub fn maketrans<T: AnyStrContainer>(
     from: &Bytes<'_>,
     to: &Bytes<'_>,
     tray: &mut T,
 ) -> Result<(), Refusal>
-    ensures value { OnTray (Fills (maketrans_of from.now.bytes.now to.now.bytes.now)) T.AnyStrContainer.held T.AnyStrContainer.spare tray.old tray.new result }
-    ensures first { Appends (T.AnyStrContainer.held tray.old) (T.AnyStrContainer.held tray.new) (MapsFirst from.now.bytes.now to.now.bytes.now) result }
+    ensures fills { Fills T.contents (maketrans_of from.now.bytes.now to.now.bytes.now)
+        tray.old tray.new result }
+    ensures same_loan { T.loan tray.new ≡ T.loan tray.old }
+    ensures first { Appends T.contents tray.old tray.new
+        (MapsFirst from.now.bytes.now to.now.bytes.now) result }
 {
     let keys = from.as_bytes();
     let values = to.as_bytes();

@@ -2,9 +2,9 @@
 ghost use Rattle.std.specs.Prelude.{◌≡◌, false, [], length, None, MatchResult};
 ghost use Rattle.anystr.specs.Refusals.{code};
 ghost use Rattle.searchers.specs.bytesets.Sets.{member};
-ghost use Rattle.trays.specs.Trays.{Fills, OnTray};
+ghost use Rattle.trays.specs.Trays.{Fills};
 ghost use Rattle.bytesinner.specs.tables.Tables.{Appends};
-ghost use Rattle.bytesinner.specs.tables.Translations.{full, kept, listed, translate_of, table_in, delete_in, Meant, InPlace, Without};
+ghost use Rattle.bytesinner.specs.tables.Translations.{full, kept, translate_of, table_in, delete_in, Meant, InPlace, Without};
 
 use super::identity::identity;
 use anystr::anystr::AnyStr;
@@ -14,17 +14,20 @@ use anystr::refusal::Refusal;
 use searchers::bytesets::byteset::{BYTE_VALUES, ByteSet};
 use trays::container::AnyStrContainer;
 
-// What a text is translated by: a table of 256 bytes, and the bytes to delete. Either may be left out.
+/// What a text is translated by: a table of 256 bytes, and the bytes to delete. Either may be left out.
 #[derive(Clone, Copy)]
 pub struct ByteInnerTranslateOptions<'a> {
+    /// the image of each byte; left out, each byte is its own
     pub table: Option<&'a [u8]>,
+    /// left out, no byte is deleted
     pub delete: OptionalArg<&'a [u8]>,
 }
 
 impl<'a> ByteInnerTranslateOptions<'a> {
     // The table and the bytes to delete that are meant; refused where a table has not exactly 256 bytes.
     fn get_value(self) -> Result<([u8; BYTE_VALUES], &'a [u8]), Refusal>
-        ensures { MatchResult result (λ v. Meant self.entry v.0 v.1.now) (λ e. (full (table_in self.entry) ≡ false) × (code e ≡ (4, 0))) }
+        ensures { MatchResult result (λ v. Meant self.entry v.0 v.1.now)
+            (λ e. (full (table_in self.entry) ≡ false) × (code e ≡ (4, 0))) }
     {
         let table = match self.table {
             Some(bytes) => bytes.try_into().map_err(|_| Refusal::BadTable)?,
@@ -45,16 +48,21 @@ fn kept_len(bytes: &[u8], gone: &ByteSet) -> usize
     bytes.iter().filter(|b| !gone.contains(**b)).count()
 }
 
-// Appends the text without the bytes to delete, each other byte as the table maps it. Refused, and nothing changes,
-// where the table has not exactly 256 bytes or the tray has too few free bytes.
+/// Appends the text without the bytes to delete, each other byte as the table maps it. Refused, and the tray is as it
+/// was, where the table has not exactly 256 bytes (4), and else where fewer bytes are free than stay (7, with the number
+/// of those that stay).
 pub fn translate<T: AnyStrContainer>(
     text: &Bytes<'_>,
     options: ByteInnerTranslateOptions<'_>,
     tray: &mut T,
 ) -> Result<(), Refusal>
-    ensures value { OnTray (Fills (translate_of (table_in options.entry) (delete_in options.entry) text.now.bytes.now)) T.AnyStrContainer.held T.AnyStrContainer.spare tray.old tray.new result }
-    ensures place { listed (delete_in options.entry) ≡ [] → Appends (T.AnyStrContainer.held tray.old) (T.AnyStrContainer.held tray.new) (InPlace (table_in options.entry) text.now.bytes.now) result }
-    ensures gone { table_in options.entry ≡ None → Appends (T.AnyStrContainer.held tray.old) (T.AnyStrContainer.held tray.new) (Without (listed (delete_in options.entry)) text.now.bytes.now) result }
+    ensures fills { Fills T.contents (translate_of options.entry text.now.bytes.now)
+        tray.old tray.new result }
+    ensures same_loan { T.loan tray.new ≡ T.loan tray.old }
+    ensures place { delete_in options.entry ≡ [] →
+        Appends T.contents tray.old tray.new (InPlace options.entry text.now.bytes.now) result }
+    ensures gone { table_in options.entry ≡ None →
+        Appends T.contents tray.old tray.new (Without options.entry text.now.bytes.now) result }
 {
     let (table, delete) = options.get_value()?;
     // a loop, where `ByteSet::new` would do: it shows that the list is gone over once, and not for each byte

@@ -1,16 +1,28 @@
-use Rattle.std.proofs.Common.{refl, ap, ◌∙◌, w64, SFits, rules}
-use Rattle.std.specs.List.{concat}
+use Rattle.std.proofs.Common.{◌≡◌, refl, ap, ◌∙◌, w64, SFits, rules}
 use Rattle.std.proofs.lemmas.Int.{to_z-of_z}
+use Rattle.anystr.specs.Refusals.{coded}
+use Rattle.anystr.specs.Texts.{bytes_of}
+use Rattle.cutters.specs.Calls.{opening}
+use Rattle.bytesinner.specs.replaces.Replaces.{opening_at}
 use Rattle.bytesinner.specs.replaces.Replacements.{marks_replaced}
-use Rattle.bytesinner.proofs.replaces.Filling.{cut_pushed, fills, cut_short}
+use Rattle.bytesinner.proofs.replaces.Filling.{opened_pour, fills, cut_short}
 use Rattle.bytesinner.proofs.replaces.Replacement.replace_marks.Goals as goal
 
-pub returns-in_default-3 : goal.returns-in_default-3
-returns-in_default-3 g c =
+pub returns-in_default-3-clause-fills : goal.returns-in_default-3-clause-fills
+returns-in_default-3-clause-fills g c =
     let r = c.args.self.now in
-    let elements = g.S.AnyStr.elements in
+    let es = g.S.AnyStr.elements r.text in
+    let from = bytes_of g.S.AnyStr r.from in
+    let to = bytes_of g.S.AnyStr r.to in
+    let cutter = c.open-cutter.result in
+    let opened = c.open-cutter.ensures in
     let f : SFits w64 r.bound = search rules in
-    let on = c.open-cutter.ensures.on in
-    let needle = ap (λ s. s.needle) on.1 ∙ c.new.ensures in
-    let pushed = cut_pushed elements g.T.AnyStrContainer.held g.T.AnyStrContainer.spare c.open-cutter.result r.text r.from r.to r.bound c.args.tray.now c.pour.result c.pour.new.self c.pour.new.tray on.0 needle (on.2 ∙ to_z-of_z w64 r.bound f) c.open-cutter.ensures.state c.pour.ensures.step in
-    fills _ _ _ _ _ _ (marks_replaced elements r) c.pour.result refl (cut_short (elements r.text) (concat (elements r.from)) (concat (elements r.to)) r.bound (g.S.AnyStr.few r.text) (g.S.AnyStr.few r.to)) pushed
+    let needle = ap (λ s. s.needle) opened.on.searcher ∙ c.new.ensures in
+    let bound = opened.on.bound ∙ to_z-of_z w64 r.bound f in
+    let is : opening cutter ≡ opening_at es from r.bound =
+    λ i. opening_at (g.S.AnyStr.elements (opened.on.text i)) (bytes_of g.S.AnyStr (needle i)) (bound i) in
+    let after = c.pour.new in
+    let poured = opened_pour g.T.AnyStrContainer.contents cutter r.to c.args.tray.now c.pour.result after.self after.tray
+    _ is opened.state c.pour.ensures.step in
+    let limit = cut_short es from to r.bound (g.S.AnyStr.few r.text) (g.S.AnyStr.few r.to) in
+    fills _ (marks_replaced g.S.AnyStr r) _ _ (coded c.pour.result) refl limit poured

@@ -1,12 +1,15 @@
-use Rattle.std.proofs.Common.{◌+◌, ◌<◌, [], ◌++◌, length, get_or, sym, refl, ap, ◌∙◌, subst, arith}
+use Rattle.std.proofs.Common.{◌≡◌, suc, ◌+◌, ◌<◌, ◌≤◌, [], ◌++◌, length, get_or, sym, refl, ap, ◌∙◌, subst, arith}
 use Rattle.std.specs.List.{concat}
 use Rattle.anystr.specs.Elements.{Cut, offset}
 use Rattle.anystr.specs.Places.{part}
-use Rattle.anystr.proofs.Parts.{concat-part}
-use Rattle.cutters.proofs.Pouring.{Pouring}
-use Rattle.bytesinner.proofs.joins.Joining.{took_next}
+use Rattle.anystr.specs.Refusals.{coded}
+use Rattle.anystr.specs.Texts.{bytes_of}
 use Rattle.anystr.proofs.Boundaries.{end_on, offset-within}
+use Rattle.anystr.proofs.Parts.{concat-part}
+use Rattle.trays.specs.Trays.{gained}
+use Rattle.cutters.proofs.Pouring.{Pouring}
 use Rattle.bytesinner.specs.replaces.Replacements.{copies_spread}
+use Rattle.bytesinner.proofs.joins.Joining.{took_next}
 use Rattle.bytesinner.proofs.replaces.Spreading.{spread-copies, copies-few}
 use Rattle.bytesinner.proofs.replaces.Turning.{to-come, all_poured, left, copy-ahead, last-copy, no-copy}
 use Rattle.bytesinner.proofs.replaces.Walking.{offset-all, element_here, none_here, rest-bytes}
@@ -17,38 +20,57 @@ pub overflow_add-end : goal.overflow_add-end
 overflow_add-end g c =
     let text = c.args.self.now.text in
     let at = c.in-Some.ensures in
-    omega (arith, (element_here (g.S.AnyStr.elements text) c.loop.counter c.loop.place c.in-Some.len _ (g.S.AnyStr.filled text) c.loop.invariant.0 at.element at.len).few, g.S.AnyStr.few text)
+    let filled = g.S.AnyStr.filled text in
+    let e = element_here (g.S.AnyStr.elements text) c.loop.counter c.loop.place c.in-Some.len _ filled
+    c.loop.invariant.place at.element at.len in
+    omega (arith, e.few, g.S.AnyStr.few text)
 
 pub loop-init : goal.loop-init
 loop-init g c =
     let r = c.args.self.now in
-    let same = spread-copies (concat (g.S.AnyStr.elements r.to)) r.bound (g.S.AnyStr.elements r.text) in
-    (refl, to-come _ _ _ _ (rw c.requires.count (sym same)) c.requires.fits)
+    let same = spread-copies (bytes_of g.S.AnyStr r.to) r.bound (g.S.AnyStr.elements r.text) in
+    record { place = refl; poured = to-come _ _ _ (rw c.requires.count (sym same)) c.requires.fits; same_loan = refl }
 
 pub loop-preserved : goal.loop-preserved
 loop-preserved g c =
     let r = c.args.self.now in
     let es = g.S.AnyStr.elements r.text in
-    let to = concat (g.S.AnyStr.elements r.to) in
+    let to = bytes_of g.S.AnyStr r.to in
     let count = c.args.copies in
     let k = c.loop.counter in
     let lt : k < count = omega arith in
-    let held = g.T.AnyStrContainer.held in
-    let spare = g.T.AnyStrContainer.spare in
-    let whole = copies_spread g.S.AnyStr.elements r in
+    let inv = c.loop.invariant in
+    let contents = g.T.AnyStrContainer.contents in
+    let loan = g.T.AnyStrContainer.loan in
     let later = left to es count (k + 1) in
-    let poured : g.row.T.Denot → Type 0 = λ t. Pouring (held t) (spare t) later (held c.args.tray.now ++ whole) (spare c.args.tray.now) (length whole) in
+    let full = gained (contents c.args.tray.now) (copies_spread g.S.AnyStr r) in
+    let filled = g.S.AnyStr.filled r.text in
+    let first = c.push_str.ensures in
+    let first_loan = first.same_loan ∙ inv.same_loan in
+    let so_far : g.row.T.Denot → Type 0 = λ t. Pouring (contents t) later full × (loan t ≡ loan c.args.tray.now) in
     elim c.match-element_at.branch [
       | in-Some w ↦
           let at = w.in-Some.ensures in
-          let e = element_here es k c.loop.place w.in-Some.len _ (g.S.AnyStr.filled r.text) c.loop.invariant.0 at.element at.len in
+          let e = element_here es k c.loop.place w.in-Some.len _ filled inv.place at.element at.len in
           let is = concat-part es _ _ _ (w.get_bytes.ensures.given e.cut) ∙ e.bytes in
-          let copied = took_next to (get_or es k [] ++ later) _ _ c.push_str.result (copy-ahead to es count k lt e.within) c.loop.invariant.1 c.push_str.ensures in
-          (w.place-is ∙ e.next, subst poured (sym w.tray-is) (took_next _ later _ _ w.push_str-in-Some.result (ap (λ b. b ++ later) (sym is)) copied w.push_str-in-Some.ensures))
+          let ahead = copy-ahead to es count k lt e.within in
+          let copied = took_next to (get_or es k [] ++ later) _ (coded c.push_str.result) ahead inv.poured first.fills in
+          let second = w.push_str-in-Some.ensures in
+          let same = ap (λ b. b ++ later) (sym is) in
+          let both = took_next _ later _ (coded w.push_str-in-Some.result) same copied second.fills in
+          let done = subst so_far (sym w.tray-is) (both, second.same_loan ∙ first_loan) in
+          record { place = w.place-is ∙ e.next; poured = done.0; same_loan = done.1 }
       | in_default w ↦
-          let past = none_here es k c.loop.place (g.S.AnyStr.filled r.text) c.loop.invariant.0 w.in_default.ensures.element in
-          let copied = took_next to later _ _ c.push_str.result (last-copy to es count k lt (omega (arith, c.requires.count, copies-few (length es) r.bound)) past) c.loop.invariant.1 c.push_str.ensures in
-          (w.place-is ∙ (c.loop.invariant.0 ∙ (offset-all es k past ∙ sym (offset-all es (k + 1) (omega arith)))), subst poured (sym w.tray-is) copied)
+          let past = none_here es k c.loop.place filled inv.place w.in_default.ensures.element in
+          let few : count ≤ suc (length es) = omega (arith, c.requires.count, copies-few (length es) r.bound) in
+          let last = last-copy to es count k lt few past in
+          let copied = took_next to later _ (coded c.push_str.result) last inv.poured first.fills in
+          let done = subst so_far (sym w.tray-is) (copied, first_loan) in
+          record {
+            place = w.place-is ∙ (inv.place ∙ (offset-all es k past ∙ sym (offset-all es (k + 1) (omega arith))));
+            poured = done.0;
+            same_loan = done.1;
+          }
     ]
 
 pub returns : goal.returns
@@ -56,14 +78,16 @@ returns g c =
     let r = c.args.self.now in
     let es = g.S.AnyStr.elements r.text in
     let k = c.loop.counter in
-    let at = c.loop.invariant.0 in
+    let inv = c.loop.invariant in
     let len = c.bytes_len.ensures in
     let cut : Cut es c.loop.place c.bytes_len.result = record {
-      order = omega (arith, at, len, offset-within es k);
-      start = (k, sym at);
+      order = omega (arith, inv.place, len, offset-within es k);
+      start = (k, sym inv.place);
       end = ((end_on es).0, (end_on es).1 ∙ sym len);
     } in
-    let is = concat-part es _ _ _ (c.get_bytes-2.ensures.given cut) ∙ (ap (λ a. part (concat es) (a, c.bytes_len.result)) at ∙ (ap (λ b. part (concat es) (offset es k, b)) len ∙ rest-bytes es k)) in
-    let done = took_next _ [] _ _ c.push_str-2.result (no-copy (concat (g.S.AnyStr.elements r.to)) es c.args.copies k c.loop-test.false ∙ ap (λ b. b ++ []) (sym is)) c.loop.invariant.1 c.push_str-2.ensures in
-    let out = all_poured _ _ _ _ _ done in
-    record { held = out.0; spare = out.1 }
+    let part_is = ap (λ a. part (concat es) (a, c.bytes_len.result)) inv.place ∙ ap (λ b. part (concat es) (offset es k, b)) len in
+    let is = concat-part es _ _ _ (c.get_bytes-2.ensures.given cut) ∙ (part_is ∙ rest-bytes es k) in
+    let last = no-copy (bytes_of g.S.AnyStr r.to) es c.args.copies k c.loop-test.false ∙ ap (λ b. b ++ []) (sym is) in
+    let push = c.push_str-2.ensures in
+    let done = took_next _ [] _ (coded c.push_str-2.result) last inv.poured push.fills in
+    record { gained = all_poured _ _ done; same_loan = push.same_loan ∙ inv.same_loan }

@@ -8,25 +8,26 @@ use Rattle.std.proofs.lemmas.Iterator.Consumers.{YieldsList-turn, YieldsList-end
 use Rattle.std.proofs.lemmas.Slice.Zip.{length-zip}
 use Rattle.anystr.specs.OfBytes.{singles, concat-singles}
 use Rattle.anystr.specs.declared.refusal.Refusal.{Refusal}
-use Rattle.trays.specs.Trays.{Pushed}
+use Rattle.trays.specs.Trays.{Contents, Fills}
 use Rattle.bytesinner.specs.tables.Tables.{byte_values, Appends}
 use Rattle.bytesinner.specs.tables.Maketrans.{table_from, MapsFirst}
 use Rattle.bytesinner.proofs.tables.Partners.{partners_none, partners_turn, partners_all, maps_first}
 use Rattle.bytesinner.proofs.tables.maketrans.maketrans.Goals as goal
 
 -- what holds of bytes that are pushed holds of those that are appended
-pushed_appends : {X : Type 0} (P : List ℕ → Type 0) (bytes held spare held' spare' : List ℕ) (r : Result X Refusal) → P bytes → Pushed bytes held spare held' spare' r → Appends held held' P r
-pushed_appends P bytes held spare held' spare' (Ok _) holds p = (bytes, p.1, holds)
-pushed_appends P bytes held spare held' spare' (Err _) holds p = tt
+pushed_appends : {Tray X : Type 0} (contents : Tray → Contents) (P : List ℕ → Type 0) (bytes : List ℕ) (tray tray' : Tray)
+    (r : Result X Refusal) → P bytes → Fills contents (Ok bytes) tray tray' r → Appends contents tray tray' P r
+pushed_appends contents P bytes tray tray' (Ok _) holds p = (bytes, p.1, holds)
+pushed_appends contents P bytes tray tray' (Err _) holds p = tt
 
-pub returns-then-keys-values-clause-value : goal.returns-then-keys-values-clause-value
-returns-then-keys-values-clause-value g c =
+pub returns-then-keys-values-clause-fills : goal.returns-then-keys-values-clause-fills
+returns-then-keys-values-clause-fills g c =
     let from = c.args.from.now.bytes.now in
     let to = c.args.to.now.bytes.now in
     let f = ap length (c.as_bytes-keys.ensures ∙ concat-singles from) in
     let t = ap length (c.as_bytes-values.ensures ∙ concat-singles to) in
     let other : (length from == length to) ≡ false = ne_eqb (length from) (length to) (λ e. c.if-keys-values.true (omega arith)) in
-    rw other (refl, refl, refl)
+    rw other (refl, refl)
 
 pub loop-key-init : goal.loop-key-init
 loop-key-init g c =
@@ -61,10 +62,14 @@ returns g c =
     let table = c.loop-key.table in
     let made : table ≡ table_from from to = partners_all table from to (length from - length c.loop-key.yielded) (omega (arith, end.1, length-zip (reverse from) (reverse to), length-reverse from, length-reverse to)) inv.0 inv.2 in
     let shown : concat (singles c.new.result.bytes.now) ≡ table_from from to = ap concat (c.new.ensures.given (omega (arith, inv.0))) ∙ (concat-singles table ∙ made) in
-    let p = rw shown at c.push_str.ensures in
+    let p = rw shown at c.push_str.ensures.fills in
     let same : (length from == length to) ≡ true = eq-eqb (length from) (length to) inv.1 in
-    let held = g.T.AnyStrContainer.held in
-    let spare = g.T.AnyStrContainer.spare in
-    let before = c.args.tray.now in
+    let contents = g.T.AnyStrContainer.contents in
+    let tray = c.args.tray.now in
     let after = c.push_str.new.self in
-    record { value = rw same p; first = pushed_appends (MapsFirst from to) (table_from from to) (held before) (spare before) (held after) (spare after) c.push_str.result (maps_first from to inv.1) p }
+    let maps = maps_first from to inv.1 in
+    record {
+      fills = rw same p;
+      same_loan = c.push_str.ensures.same_loan;
+      first = pushed_appends contents (MapsFirst from to) (table_from from to) tray after c.push_str.result maps p;
+    }

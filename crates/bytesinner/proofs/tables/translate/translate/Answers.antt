@@ -1,47 +1,59 @@
-use Rattle.std.proofs.Common.{◌≡◌, length, map, refl, ap, ◌∙◌, arith, rules}
+use Rattle.std.proofs.Common.{◌≡◌, ◌≤◌, length, refl, ap, ◌∙◌, arith, rules}
 use Rattle.std.specs.List.{concat}
-use Rattle.std.proofs.lemmas.Grind.{common_steps}
 use Rattle.std.proofs.lemmas.List.{take_all, length-map, length-drop}
 use Rattle.anystr.specs.OfBytes.{singles, concat-singles}
 use Rattle.searchers.specs.bytesets.Sets.{among, member}
-use Rattle.bytesinner.specs.tables.Translations.{image, listed, kept, table_in, delete_in}
+use Rattle.trays.specs.Trays.{gained}
+use Rattle.bytesinner.specs.tables.Translations.{image, kept, table_in, delete_in, kept_images}
 use Rattle.bytesinner.proofs.tables.Done.{done, length-done}
 use Rattle.bytesinner.proofs.tables.Translated.{kept-is, undeleted, unmapped}
 use Rattle.bytesinner.proofs.tables.translate.translate.Goals as goal
-use Rattle.bytesinner.proofs.tables.translate.translate.Goals.{then-not-contains+in_ok-push_str, else-not-contains}
 
-pub returns-then-needed-free-clause-value : goal.returns-then-needed-free-clause-value
-returns-then-needed-free-clause-value g c =
+pub returns-then-needed-free-clause-fills : goal.returns-then-needed-free-clause-fills
+returns-then-needed-free-clause-fills g c =
     let text = c.args.text.now.bytes.now in
-    let delete = listed (delete_in c.args.options) in
-    let is =
-    ap length (kept-is (member c.loop-d.gone.has) delete c.in_ok-table.delete.now text c.as_bytes-bytes.result.now c.loop-d.d-index c.loop-d-test.false c.loop-d.invariant c.in_ok-table.ensures.goes (c.as_bytes-bytes.ensures ∙ concat-singles text)) in
+    let bytes = c.as_bytes-bytes.result.now in
+    let delete = delete_in c.args.options in
+    let meant = c.in_ok-table.ensures in
+    let shown : bytes ≡ text = c.as_bytes-bytes.ensures ∙ concat-singles text in
+    let is = ap length (kept-is (member c.loop-d.gone.has) delete c.in_ok-table.delete.now text bytes c.loop-d.d-index
+    c.loop-d-test.false c.loop-d.invariant meant.goes shown) in
     let long = length-map (kept (among delete) text) (image (table_in c.args.options)) in
-    rw c.in_ok-table.ensures.long (omega arith, cc, refl, refl)
+    rw meant.long (omega arith, cc, refl)
 
 -- a byte that stays has room
-pub returns-in_err-push_str : goal.returns-in_err-push_str
-returns-in_err-push_str g c =
+pub returns-in_err-push_str-clause-fills : goal.returns-in_err-push_str-clause-fills
+returns-in_err-push_str-clause-fills g c =
     let gone = member c.loop-d.gone.has in
     let bytes = c.as_bytes-bytes.result.now in
     let f = image (table_in c.args.options) in
+    let so_far = done f gone bytes c.loop-b.b-index in
+    let tray = g.T.AnyStrContainer.contents c.args.tray.now in
     let room = length-done f gone bytes c.loop-b.b-index c.loop-b-test.true (search rules) in
-    let left = ap length c.loop-b.invariant.2 in
-    let one : length (concat (singles c.new.result.bytes.now)) ≡ 1 = ap (λ es. length (concat es)) (c.new.ensures.given (omega arith)) in
-    absurd (omega (arith, length-drop (length (done f gone bytes c.loop-b.b-index)) (g.T.AnyStrContainer.spare c.args.tray.now), c.in_err-push_str.ensures.0))
+    let left = ap (λ t. length t.spare) c.loop-b.invariant.gained in
+    let one : length (concat (singles c.new.result.bytes.now)) ≡ 1 =
+    ap (λ es. length (concat es)) (c.new.ensures.given (omega arith)) in
+    absurd (omega (arith, length-drop (length so_far) tray.spare, c.in_err-push_str.ensures.fills.0))
 
 pub returns : goal.returns
 returns g c =
     let bytes = c.as_bytes-bytes.result.now in
     let text = c.args.text.now.bytes.now in
-    let table = table_in c.args.options in
-    let delete = listed (delete_in c.args.options) in
-    let is =
-    kept-is (member c.loop-d.gone.has) delete c.in_ok-table.delete.now text bytes c.loop-d.d-index c.loop-d-test.false c.loop-d.invariant c.in_ok-table.ensures.goes (c.as_bytes-bytes.ensures ∙ concat-singles text) in
-    let p = rw (take_all c.loop-b.b-index bytes c.loop-b-test.false, is) at c.loop-b.invariant in
-    let result = map (image table) (kept (among delete) text) in
-    record { value = rw c.in_ok-table.ensures.long p; place = λ e. (result, p.1, undeleted table delete text e); gone = λ e. (result, p.1, unmapped table delete text e) }
-
-pub loop-b-preserved : goal.loop-b-preserved
-loop-b-preserved g c =
-    elim c.if-not-contains.branch [ then-not-contains+in_ok-push_str w ↦ grind (arith, common_steps) | else-not-contains w ↦ grind (arith, common_steps) ]
+    let options = c.args.options in
+    let inv = c.loop-b.invariant in
+    let tray = g.T.AnyStrContainer.contents c.args.tray.now in
+    let meant = c.in_ok-table.ensures in
+    let shown : bytes ≡ text = c.as_bytes-bytes.ensures ∙ concat-singles text in
+    let is = kept-is (member c.loop-d.gone.has) (delete_in options) c.in_ok-table.delete.now text bytes c.loop-d.d-index
+    c.loop-d-test.false c.loop-d.invariant meant.goes shown in
+    let images = kept_images options text in
+    let made : g.T.AnyStrContainer.contents c.loop-b.tray ≡ gained tray images =
+    rw (take_all c.loop-b.b-index bytes c.loop-b-test.false, is) at inv.gained in
+    let long = length-map (kept (among (delete_in options)) text) (image (table_in options)) in
+    let fits : length images ≤ length tray.spare = omega (arith, ap length is) in
+    record {
+      fills = rw meant.long (fits, made);
+      same_loan = inv.same_loan;
+      place = λ e. (images, made, undeleted options text e);
+      gone = λ e. (images, made, unmapped options text e);
+    }
