@@ -1,3 +1,2 @@
-pub mod Step
+pub mod Opened
 pub mod Read
-pub mod Cutting

@@ -1,3 +1,4 @@
 pub mod Longest
 pub mod Scan
 pub mod Bounded
+pub mod Opened

@@ -121,6 +121,11 @@ module _ (rs : List Span) (bound : ℤ) (total a m : ℕ) (w : Wanted rs bound t
           (ap (λ (k : ℕ). stretches (take k (set list' a last))) s ∙ set_last ∙ ap (λ (k : ℕ). to_end len (stretches (take k list'))) (sym s) ∙ ap (to_end len) (came.written ∙ ap (λ (k : ℕ). take k rs) s) ∙ sym (words_cut len lt))
           (drop-set-lt n list' a last (omega arith) ∙ came.others)
 
+      pub words_put : total ≤ a → Lists (Ok (words_of rs len bound)) list list' (Ok n)
+      words_put le =
+          lists (words_of rs len bound) list list' n (room.is ∙ sym (words_length len)) (omega (arith, room.is, room.fits))
+          (came.written ∙ take_all n rs (omega (arith, n_is, w.total_is)) ∙ sym (words_whole len le)) came.others
+
       pub words_put_cut : a < total → (end : ℕ) → end ≡ len → Lists (Ok (words_of rs len bound)) list (set list' a (record { start = (get_or list' a none).start; end = end })) (Ok n)
       words_put_cut lt end is = subst (λ (k : ℕ). Lists (Ok (words_of rs len bound)) list (set list' a (record { start = (get_or list' a none).start; end = k })) (Ok n)) (sym is) (to_len lt)
 

@@ -1,6 +1,7 @@
 use Rattle.std.proofs.Common.{Ok, subst}
 use Rattle.std.specs.List.{concat}
 use Rattle.anystr.specs.Places.{Lists}
+use Rattle.bytesinner.proofs.lines.Opened.{opened-left}
 use Rattle.bytesinner.proofs.lines.Read.{lines-law}
 use Rattle.bytesinner.proofs.lines.splitlines.Goals as goal
 
@@ -8,4 +9,4 @@ pub returns-clause-law : goal.returns-clause-law
 returns-clause-law g c = lines-law (concat (g.S.AnyStr.elements c.args.text.now))
 
 pub returns-clause-value : goal.returns-clause-value
-returns-clause-value g c = subst (λ ls. Lists (Ok ls) c.args.places.now c.list.new.places c.list.result) c.new.ensures c.list.ensures
+returns-clause-value g c = subst (λ ls. Lists (Ok ls) c.args.places.now c.list.new.places c.list.result) (opened-left c.new.result c.new.ensures.on c.new.ensures.state) c.list.ensures
