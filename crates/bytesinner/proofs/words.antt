@@ -2,3 +2,4 @@ pub mod Longest
 pub mod Scan
 pub mod Bounded
 pub mod OnText
+pub mod Opened

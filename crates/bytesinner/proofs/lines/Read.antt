@@ -9,7 +9,7 @@ use Rattle.cuts.specs.Cuts.{between, cuts, all_marks}
 use Rattle.cuts.proofs.Greedy.{Greedy}
 use Rattle.cuts.proofs.Listed.{greedy_cuts}
 use Rattle.bytesinner.specs.lines.Lines.{filled, kept, lines_of, Bare, Reads, ended, line, last, bytes_of, LinesLaw}
-use Rattle.bytesinner.proofs.lines.Step.{filled-cons, starts}
+use Rattle.bytesinner.specs.lines.Step.{filled-cons, starts}
 
 -- each of the three is a mark
 pub is-mark : (bs : List ℕ) (a e : ℕ) → LineEnd bs a e → line_end bs a e ≡ true

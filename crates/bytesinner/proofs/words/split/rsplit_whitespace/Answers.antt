@@ -3,16 +3,18 @@ use Rattle.std.specs.Iterator.Adapters.{skip_source, skip_count}
 use Rattle.std.specs.declared.iter.Skip.{Skip}
 use Rattle.searchers.specs.Marks.{Span}
 use Rattle.cutters.specs.pieces.Skipped.{left_after}
-use Rattle.bytesinner.specs.words.Left.{left}
+use Rattle.anystr.specs.declared.anystr.AnyStr
+use Rattle.bytesinner.specs.words.Runs.{left}
+use Rattle.bytesinner.proofs.words.Opened.{opened-left}
 use Rattle.bytesinner.specs.declared.words.runs.Runs.{Runs}
 use Rattle.bytesinner.proofs.words.Bounded.{wanted, given, filled-front, rwords_length, rwords_put, rwords_put_cut}
 use Rattle.bytesinner.proofs.words.OnText.{rwords-cut, told}
 use Rattle.bytesinner.proofs.words.split.rsplit_whitespace.Goals as goal
 
 -- what is left of the runs behind those that are passed over
-skipped : {S C : Type 0} (elements : S → List (List ℕ)) (last : Skip (Runs S C)) {all : Runs S C} {n : ℕ} {rs : List Span}
-    → skip_source last ≡ all → skip_count last ≡ n → left elements all ≡ rs → left_after (left elements) last ≡ drop n rs
-skipped elements last {n = n} from over are = (λ i. drop (over i) (left elements (from i))) ∙ ap (drop n) are
+skipped : {S C : Type 0} (s : AnyStr.Ghosts S C) (last : Skip (Runs S C)) {all : Runs S C} {n : ℕ} {rs : List Span}
+    → skip_source last ≡ all → skip_count last ≡ n → left s all ≡ rs → left_after (left s) last ≡ drop n rs
+skipped s last {n = n} from over are = (λ i. drop (over i) (left s (from i))) ∙ ap (drop n) are
 
 pub returns-in_err-n : goal.returns-in_err-n
 returns-in_err-n g c =
@@ -26,9 +28,9 @@ returns-then-shares g c =
     let es = g.S.AnyStr.elements c.args.text.now in
     let w = wanted c.new-shares.ensures.total c.ranges.maxsplit c.new-shares.ensures.alone c.places.ensures in
     let skip = c.skip-last.ensures in
-    let last = skipped g.S.AnyStr.elements c.skip-last.result skip.source skip.count c.new.ensures in
+    let last = skipped g.S.AnyStr c.skip-last.result skip.source skip.count (opened-left c.new.result c.new.ensures) in
     let room = given c.args.places.now c.in_ok-n.ensures in
-    let filled = filled-front room last c.fill.auto.places c.fill.ensures in
+    let filled = filled-front room last c.fill.auto.places c.fill.ensures.written in
     told es _ (rwords-cut es c.args.maxsplit) c.args.places.now _ (Ok c.in_ok-n.n)
     (rwords_put_cut w room c.if-shares.true filled)
 
@@ -37,8 +39,8 @@ returns-else-shares g c =
     let es = g.S.AnyStr.elements c.args.text.now in
     let w = wanted c.new-shares.ensures.total c.ranges.maxsplit c.new-shares.ensures.alone c.places.ensures in
     let skip = c.skip-last.ensures in
-    let last = skipped g.S.AnyStr.elements c.skip-last.result skip.source skip.count c.new.ensures in
+    let last = skipped g.S.AnyStr c.skip-last.result skip.source skip.count (opened-left c.new.result c.new.ensures) in
     let room = given c.args.places.now c.in_ok-n.ensures in
-    let filled = filled-front room last c.fill.auto.places c.fill.ensures in
+    let filled = filled-front room last c.fill.auto.places c.fill.ensures.written in
     told es _ (rwords-cut es c.args.maxsplit) c.args.places.now _ (Ok c.in_ok-n.n)
     (rwords_put w room c.if-shares.false filled)
