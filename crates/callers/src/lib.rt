@@ -2,4 +2,5 @@
 #![tactic(auto)]
 
 pub mod pages;
+pub mod replaced;
 pub mod rests;

@@ -32,8 +32,8 @@ from_end from place [] =
 from_end from place (b ∷ bs) =
     cond_both (space b) _ _ (IsFromEnd place (b ∷ bs))
     (λ is. cond_both (nat_lt from place) ((from, place) ∷ []) [] (λ rs. IsFromEnd place (b ∷ bs) (rs ++ more))
-      (λ _. (omega arith, ap (λ n. runs_from place place (drop n (b ∷ bs))) z ∙ (cond-true (space b) _ _ is ∙ ap (λ rs. rs ++ more) (no_run place))))
-      (λ _. further more (from_end (suc place) (suc place) bs)))
+    (λ _. (omega arith, ap (λ n. runs_from place place (drop n (b ∷ bs))) z ∙ (cond-true (space b) _ _ is ∙ ap (λ rs. rs ++ more) (no_run place))))
+    (λ _. further more (from_end (suc place) (suc place) bs)))
     (λ _. further (runs_from from (suc place) bs) (from_end from (suc place) bs))
   where
     more : List Span
