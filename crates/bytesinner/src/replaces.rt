@@ -3,7 +3,8 @@
 ghost use Rattle.std.specs.Prelude.{◌≡◌, ◌≤◌, length};
 ghost use Rattle.anystr.specs.Texts.{bytes_of};
 ghost use Rattle.trays.specs.Trays.{Fills, gained};
-ghost use Rattle.bytesinner.specs.replaces.Replaces.{bound_of, copies as copies_of, if_short, replace_of, ReplaceLaw};
+ghost use Rattle.bytesinner.specs.replaces.Replaces.{bound_of, copies as copies_of, if_short};
+ghost use Rattle.bytesinner.specs.replaces.Replaces.{replace_of, ReplaceLaw};
 ghost use Rattle.bytesinner.specs.replaces.Replacements.{marks_replaced, copies_spread, all_replaced};
 
 use anystr::anystr::AnyStr;

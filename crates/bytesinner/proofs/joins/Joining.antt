@@ -94,8 +94,8 @@ module _ (sep bytes : List ℕ) (places : List Place) where
       omega (arith, join-sum, bare_fits bytes (stretches places), ap (λ n. n * length bytes) (length-map places stretch))
 
 -- a push of what comes next is taken
-pub took_next : {X : Type 0} (bytes rest : List ℕ) {before : List ℕ} {tray full : Contents} (tray' : Contents) (r : Result X (ℕ × ℕ))
-    → before ≡ bytes ++ rest → Pouring tray before full → IsFilled (Ok bytes) tray tray' r → Pouring tray' rest full
+pub took_next : {X : Type 0} (bytes rest : List ℕ) {before : List ℕ} {tray full : Contents} (tray' : Contents)
+    (r : Result X (ℕ × ℕ)) → before ≡ bytes ++ rest → Pouring tray before full → IsFilled (Ok bytes) tray tray' r → Pouring tray' rest full
 took_next bytes rest {tray = tray} {full = full} tray' r split p push =
     let so_far = rw split at p in
     let fits : length bytes ≤ length tray.spare = omega (arith, so_far.room, length-append bytes rest) in

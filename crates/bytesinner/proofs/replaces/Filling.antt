@@ -19,8 +19,8 @@ use Rattle.bytesinner.proofs.replaces.Law.{spread-long, spread-within, cut-withi
 
 -- a pour from a cutter that was just opened
 pub opened_pour : {S F C Tray : Type 0} {s : AnyStr.Ghosts S C} {f : Searcher.Ghosts F S C} (contents : Tray → Contents)
-    (c : Cutter S F C s f) (to : S) (tray : Tray) (r : Result (Unit {0}) Refusal) (d : Cutter S F C s f) (tray' : Tray) (on : Opening)
-    → opening c ≡ on → state c ≡ at_opening → Pours contents c to tray r d tray'
+    (c : Cutter S F C s f) (to : S) (tray : Tray) (r : Result (Unit {0}) Refusal) (d : Cutter S F C s f) (tray' : Tray)
+    (on : Opening) → opening c ≡ on → state c ≡ at_opening → Pours contents c to tray r d tray'
     → Fills contents (Ok (needed on (bytes_of s to) at_opening)) tray tray' r
 opened_pour {s = s} contents c to tray r d tray' on is new p =
     let Filled_by : Opening × State → Type 0 =

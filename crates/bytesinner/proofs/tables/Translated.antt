@@ -8,7 +8,8 @@ use Rattle.bytesinner.proofs.tables.Counts.{count_kept}
 
 -- the set is made from the whole delete list
 pub kept-is : (gone : ℕ → Bool) (delete ds text bytes : List ℕ) (at : ℕ) → length ds ≤ at
-    → ((b : ℕ) → gone b ≡ among (take at ds) b) → ds ≡ delete → bytes ≡ text → kept gone bytes ≡ kept (among delete) text
+    → ((b : ℕ) → gone b ≡ among (take at ds) b) → ds ≡ delete → bytes ≡ text
+    → kept gone bytes ≡ kept (among delete) text
 kept-is gone delete ds text bytes at end made whole is =
     let same : (b : ℕ) → gone b ≡ among delete b = λ b. made b ∙ ap (λ xs. among xs b) (take_all at ds end ∙ whole) in
     λ i. kept (λ b. same b i) (is i)

@@ -15,7 +15,8 @@ use searchers::substring::Substring;
 impl<'a> Stretch<'a> {
     // How often the needle is cut from the front; an empty one stands at each offset.
     fn times(&self, needle: Bytes<'_>) -> usize
-        ensures { result ≡ count_of self.now.text.bytes.now needle.entry.bytes.now self.now.range.start self.now.range.end }
+        ensures { result ≡ count_of self.now.text.bytes.now needle.entry.bytes.now
+            self.now.range.start self.now.range.end }
     {
         let Some(part) = self.part() else {
             return 0;
@@ -27,11 +28,14 @@ impl<'a> Stretch<'a> {
     }
 }
 
-// How often the sub stands in the text without overlap, counted from the front, from the start that is meant to the
-// end; an empty one at each offset. Refused where the sub is no byte or too long.
+/// How often the sub stands in the text without overlap, counted from the front, from the start that is meant to the
+/// end; an empty one stands at each offset. Refused where the sub is a number that is no byte (2) or has more bytes than
+/// a text may have (6).
 pub fn count(text: &Bytes<'_>, options: ByteInnerFindOptions<'_>) -> Result<usize, Refusal>
-    ensures value { coded result ≡ asked (count_of text.now.bytes.now) options.entry (length text.now.bytes.now) }
-    ensures law { Keeps (Number text.now.bytes.now) options.entry (length text.now.bytes.now) result }
+    ensures value { coded result
+        ≡ asked (count_of text.now.bytes.now) options.entry (length text.now.bytes.now) }
+    ensures law { Keeps (Number text.now.bytes.now) options.entry
+        (length text.now.bytes.now) result }
 {
     options.ask(text, |stretch, needle| stretch.times(needle))
 }

@@ -15,7 +15,8 @@ use searchers::substring::Substring;
 impl<'a> Stretch<'a> {
     // The first place of the needle.
     fn first_place(&self, needle: Bytes<'_>) -> Option<usize>
-        ensures { FirstPlace self.now.text.bytes.now needle.entry.bytes.now self.now.range.start self.now.range.end result }
+        ensures { FirstPlace self.now.text.bytes.now needle.entry.bytes.now
+            self.now.range.start self.now.range.end result }
     {
         let part = self.part()?;
         if needle.is_empty() {
@@ -28,7 +29,8 @@ impl<'a> Stretch<'a> {
     // The last place of the needle. Not one function with the first: it asks the searcher from the end, and finds an
     // empty needle there.
     fn last_place(&self, needle: Bytes<'_>) -> Option<usize>
-        ensures { LastPlace self.now.text.bytes.now needle.entry.bytes.now self.now.range.start self.now.range.end result }
+        ensures { LastPlace self.now.text.bytes.now needle.entry.bytes.now
+            self.now.range.start self.now.range.end result }
     {
         let part = self.part()?;
         if needle.is_empty() {
@@ -39,20 +41,25 @@ impl<'a> Stretch<'a> {
     }
 }
 
-// The least offset in the text at which the sub stands, from the start that is meant to the end; none where there
-// is none. Refused where the sub is no byte or too long.
+/// The least offset in the text, in bytes, at which the sub stands, from the start that is meant to the end; none where
+/// there is none. Refused where the sub is a number that is no byte (2) or has more bytes than a text may have (6).
 pub fn find(text: &Bytes<'_>, options: ByteInnerFindOptions<'_>) -> Result<Option<usize>, Refusal>
-    ensures value { coded result ≡ asked (find_of text.now.bytes.now) options.entry (length text.now.bytes.now) }
-    ensures law { Keeps (FirstPlace text.now.bytes.now) options.entry (length text.now.bytes.now) result }
+    ensures value { coded result
+        ≡ asked (find_of text.now.bytes.now) options.entry (length text.now.bytes.now) }
+    ensures law { Keeps (FirstPlace text.now.bytes.now) options.entry
+        (length text.now.bytes.now) result }
 {
     options.ask(text, |stretch, needle| stretch.first_place(needle))
 }
 
-// The greatest offset in the text at which the sub stands, from the start that is meant to the end; none where there
-// is none. Refused where the sub is no byte or too long.
+/// The greatest offset in the text, in bytes, at which the sub stands, from the start that is meant to the end; none
+/// where there is none. Refused where the sub is a number that is no byte (2) or has more bytes than a text may have
+/// (6).
 pub fn rfind(text: &Bytes<'_>, options: ByteInnerFindOptions<'_>) -> Result<Option<usize>, Refusal>
-    ensures value { coded result ≡ asked (rfind_of text.now.bytes.now) options.entry (length text.now.bytes.now) }
-    ensures law { Keeps (LastPlace text.now.bytes.now) options.entry (length text.now.bytes.now) result }
+    ensures value { coded result
+        ≡ asked (rfind_of text.now.bytes.now) options.entry (length text.now.bytes.now) }
+    ensures law { Keeps (LastPlace text.now.bytes.now) options.entry
+        (length text.now.bytes.now) result }
 {
     options.ask(text, |stretch, needle| stretch.last_place(needle))
 }

@@ -11,7 +11,8 @@ use anystr::indices::adjust_indices;
 use anystr::refusal::Refusal;
 use std::ops::Range;
 
-// What find, rfind and count are asked for: a byte string or a number that is a byte, with an optional start and end.
+/// What find, rfind and count are asked for: a byte string or a number that is a byte, with an optional start and end,
+/// offsets in bytes, from the text's end where they are negative.
 #[derive(Clone, Copy)]
 pub struct ByteInnerFindOptions<'a> {
     pub sub: Either<&'a [u8], i64>,
@@ -19,15 +20,15 @@ pub struct ByteInnerFindOptions<'a> {
     pub end: Option<i64>,
 }
 
-// What a sub means: a byte string, or the byte of a number. Not an `Either` of a text and a byte: an enum that holds a
-// reference cannot hold a `Bytes`.
+/// What a sub means: a byte string, or the byte of a number.
+// Not an `Either` of a text and a byte: an enum that holds a reference cannot hold a `Bytes`.
 #[derive(Clone, Copy)]
 pub enum Needle<'a> {
     Bytes(&'a [u8]),
     Byte([u8; 1]),
 }
 
-// The byte that a number is; refused where it is none.
+/// The byte that a number is; refused where it is none (2).
 pub fn byte_or(number: i64) -> Result<u8, Refusal>
     ensures { coded result ≡ byte_of number }
 {
@@ -35,7 +36,7 @@ pub fn byte_or(number: i64) -> Result<u8, Refusal>
 }
 
 impl<'a> Needle<'a> {
-    // The bytes that are looked for.
+    /// The bytes that are looked for.
     pub fn as_bytes<'b>(&'b self) -> &'b [u8]
     where
         'a: 'b,
@@ -49,7 +50,8 @@ impl<'a> Needle<'a> {
 }
 
 impl<'a> ByteInnerFindOptions<'a> {
-    // The needle and the offsets that are meant in `len` bytes; refused where the sub is no byte or too long.
+    /// The needle and the offsets that are meant in `len` bytes; refused where the sub is a number that is no byte (2) or
+    /// has more bytes than a text may have (6).
     pub fn get_value(self, len: usize) -> Result<(Needle<'a>, Range<usize>), Refusal>
         ensures { read result ≡ asked sought self.entry len }
     {
@@ -71,7 +73,8 @@ impl<'a> ByteInnerFindOptions<'a> {
         search: F,
     ) -> Result<R, Refusal>
         requires { F.IsAlwaysCallable search }
-        ensures answer { IfOk result (λ x. (stretch : _) × (needle : _) × Meant self.entry text.now stretch needle.bytes.now × F.post search stretch needle x) }
+        ensures answer { IfOk result (λ x. (stretch : _) × (needle : _)
+            × Meant self.entry text.now stretch needle.bytes.now × F.post search stretch needle x) }
         ensures refused { IfErr result (λ e. sub_of self.entry.sub ≡ Err (code e)) }
     {
         let (needle, range) = self.get_value(text.bytes_len())?;

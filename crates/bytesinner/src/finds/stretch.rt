@@ -17,8 +17,10 @@ pub(super) struct Stretch<'a> {
 impl<'a> Stretch<'a> {
     // The bytes between the offsets; none where the start is past the end.
     pub(super) fn part(&self) -> Option<Bytes<'a>>
-        ensures order { MatchOption result (self.now.range.end < self.now.range.start) (λ _. self.now.range.start ≤ self.now.range.end) }
-        ensures bytes { IfSome result (λ p. p.bytes.now ≡ part self.now.text.bytes.now (self.now.range.start, self.now.range.end)) }
+        ensures order { MatchOption result (self.now.range.end < self.now.range.start)
+            (λ _. self.now.range.start ≤ self.now.range.end) }
+        ensures bytes { IfSome result (λ p. p.bytes.now
+            ≡ part self.now.text.bytes.now (self.now.range.start, self.now.range.end)) }
     {
         if self.range.start > self.range.end {
             return None;

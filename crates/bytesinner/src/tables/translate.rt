@@ -4,7 +4,8 @@ ghost use Rattle.anystr.specs.Refusals.{code};
 ghost use Rattle.searchers.specs.bytesets.Sets.{member};
 ghost use Rattle.trays.specs.Trays.{Fills};
 ghost use Rattle.bytesinner.specs.tables.Tables.{Appends};
-ghost use Rattle.bytesinner.specs.tables.Translations.{full, kept, translate_of, table_in, delete_in, Meant, InPlace, Without};
+ghost use Rattle.bytesinner.specs.tables.Translations.{full, kept, table_in, delete_in, translate_of};
+ghost use Rattle.bytesinner.specs.tables.Translations.{Meant, InPlace, Without};
 
 use super::identity::identity;
 use anystr::anystr::AnyStr;
@@ -49,8 +50,8 @@ fn kept_len(bytes: &[u8], gone: &ByteSet) -> usize
 }
 
 /// Appends the text without the bytes to delete, each other byte as the table maps it. Refused, and the tray is as it
-/// was, where the table has not exactly 256 bytes (4), and else where fewer bytes are free than stay (7, with the number
-/// of those that stay).
+/// was, where the table has not exactly 256 bytes (4), and else where fewer bytes are free than stay (7, with the
+/// number of those that stay).
 pub fn translate<T: AnyStrContainer>(
     text: &Bytes<'_>,
     options: ByteInnerTranslateOptions<'_>,

@@ -21,8 +21,9 @@ returns-in_default-3-clause-fills g c =
     let bound = opened.on.bound ∙ to_z-of_z w64 r.bound f in
     let is : opening cutter ≡ opening_at es from r.bound =
     λ i. opening_at (g.S.AnyStr.elements (opened.on.text i)) (bytes_of g.S.AnyStr (needle i)) (bound i) in
+    let contents = g.T.AnyStrContainer.contents in
     let after = c.pour.new in
-    let poured = opened_pour g.T.AnyStrContainer.contents cutter r.to c.args.tray.now c.pour.result after.self after.tray
-    _ is opened.state c.pour.ensures.step in
+    let poured = opened_pour contents cutter r.to c.args.tray.now c.pour.result after.self after.tray _ is opened.state
+    c.pour.ensures.step in
     let limit = cut_short es from to r.bound (g.S.AnyStr.few r.text) (g.S.AnyStr.few r.to) in
     fills _ (marks_replaced g.S.AnyStr r) _ _ (coded c.pour.result) refl limit poured

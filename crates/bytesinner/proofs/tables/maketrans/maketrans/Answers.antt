@@ -15,8 +15,8 @@ use Rattle.bytesinner.proofs.tables.Partners.{partners_none, partners_turn, part
 use Rattle.bytesinner.proofs.tables.maketrans.maketrans.Goals as goal
 
 -- what holds of bytes that are pushed holds of those that are appended
-pushed_appends : {Tray X : Type 0} (contents : Tray → Contents) (P : List ℕ → Type 0) (bytes : List ℕ) (tray tray' : Tray)
-    (r : Result X Refusal) → P bytes → Fills contents (Ok bytes) tray tray' r → Appends contents tray tray' P r
+pushed_appends : {Tray X : Type 0} (contents : Tray → Contents) (P : List ℕ → Type 0) (bytes : List ℕ)
+    (tray tray' : Tray) (r : Result X Refusal) → P bytes → Fills contents (Ok bytes) tray tray' r → Appends contents tray tray' P r
 pushed_appends contents P bytes tray tray' (Ok _) holds p = (bytes, p.1, holds)
 pushed_appends contents P bytes tray tray' (Err _) holds p = tt
 
