@@ -40,8 +40,10 @@ impl<'a> Bytes<'a> {
 
     // The text of the bytes; the empty text where `check` refuses.
     pub fn new(bytes: &'a [u8]) -> Bytes<'a>
-        ensures given { length bytes.now ≤ most_bytes → singles result.bytes.now ≡ singles bytes.now }
-        ensures refused { most_bytes < length bytes.now → singles result.bytes.now ≡ [] }
+        ensures given { length bytes.now ≤ most_bytes
+            → ⟦<Bytes<'a> as AnyStr>⟧.elements result ≡ singles bytes.now }
+        ensures refused { most_bytes < length bytes.now
+            → ⟦<Bytes<'a> as AnyStr>⟧.elements result ≡ [] }
     {
         Bytes::try_from(bytes).unwrap_or(Bytes { bytes: &[] })
     }

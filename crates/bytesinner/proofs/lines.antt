@@ -1,3 +1,3 @@
-pub mod Step
+pub mod Opened
 pub mod Read
-pub mod Cutting
+pub mod OnText

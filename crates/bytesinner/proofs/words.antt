@@ -1,3 +1,5 @@
 pub mod Longest
 pub mod Scan
 pub mod Bounded
+pub mod OnText
+pub mod Opened

@@ -1,4 +1,5 @@
 pub mod Splitting
+pub mod Written
 pub mod splits
 pub mod words
 pub mod lines

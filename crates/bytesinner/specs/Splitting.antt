@@ -3,8 +3,10 @@ use Rattle.std.specs.Prelude.{ℕ, List, length, ℤ, Some, None, Ok, Option, Re
 use Rattle.std.specs.List.{concat}
 use Rattle.anystr.specs.declared.place.Place.{Place}
 use Rattle.anystr.specs.declared.refusal.Refusal.{Refusal}
+use Rattle.searchers.specs.Ascii.{AsciiApart}
 use Rattle.searchers.specs.Marks.{Span}
-use Rattle.bytesinner.specs.splits.Separated.{split_of, rsplit_of, OfWritten, SplitFront, SplitBack, Restore, Cuttable}
+use Rattle.bytesinner.specs.Written.{OfWritten, Cuttable}
+use Rattle.bytesinner.specs.splits.Separated.{split_of, rsplit_of, SplitFront, SplitBack, Restore}
 use Rattle.bytesinner.specs.words.Words.{runs, words_of, rwords_of, AllRuns}
 
 -- split: by the separator, or the words where there is none
@@ -17,15 +19,22 @@ abbrev pub rsplits_of : List ℕ → Option (List ℕ) → ℤ → Result (List 
 rsplits_of bytes (Some sep) maxsplit = rsplit_of bytes sep maxsplit
 rsplits_of bytes None maxsplit = Ok (rwords_of (runs bytes) maxsplit)
 
--- The law of split. The places lie between the separators that the rule of the cuts from the front cuts, are joined
--- to the text again, and can be cut out of it; without a separator the words are the text's runs.
-abbrev pub SplitLaw : List (List ℕ) → Option (List ℕ) → ℤ → List Place → Result ℕ Refusal → Type 0
-SplitLaw es (Some sep) maxsplit list' r =
-    OfWritten (SplitFront (concat es) sep maxsplit) list' r × OfWritten (Restore (concat es) sep) list' r × OfWritten (Cuttable es) list' r
-SplitLaw es None maxsplit list' r = AllRuns (concat es) (runs (concat es))
+-- What split and rsplit keep besides the list. At a separator, the places lie between the occurrences that the rule
+-- cuts, are joined to the text again, and can be cut out of it. At whitespace, the words are the text's runs, and the
+-- places can be cut out of a text that keeps bytes below 128 apart.
+abbrev pub SplitsLaw : ((bytes sep : List ℕ) → ℤ → List Span → Type 0) → List (List ℕ) → Option (List ℕ) → ℤ
+    → List Place → Result ℕ Refusal → Type 0
+SplitsLaw Split es (Some sep) maxsplit list' r =
+    OfWritten (Split (concat es) sep maxsplit) list' r
+    × OfWritten (Restore (concat es) sep) list' r
+    × OfWritten (Cuttable es) list' r
+SplitsLaw Split es None maxsplit list' r =
+    AllRuns (concat es) (runs (concat es)) × (AsciiApart es → OfWritten (Cuttable es) list' r)
 
--- the law of rsplit: the same with the rule of the cuts from the end
+-- the law of split: its rule cuts from the front
+abbrev pub SplitLaw : List (List ℕ) → Option (List ℕ) → ℤ → List Place → Result ℕ Refusal → Type 0
+SplitLaw = SplitsLaw SplitFront
+
+-- the law of rsplit: its rule cuts from the end
 abbrev pub RsplitLaw : List (List ℕ) → Option (List ℕ) → ℤ → List Place → Result ℕ Refusal → Type 0
-RsplitLaw es (Some sep) maxsplit list' r =
-    OfWritten (SplitBack (concat es) sep maxsplit) list' r × OfWritten (Restore (concat es) sep) list' r × OfWritten (Cuttable es) list' r
-RsplitLaw es None maxsplit list' r = AllRuns (concat es) (runs (concat es))
+RsplitLaw = SplitsLaw SplitBack

@@ -1,3 +1,5 @@
 pub mod Lines
+pub mod Step
+pub mod Reader
 pub mod Few
-pub mod Left
+pub mod Yields

@@ -1,2 +1,3 @@
 pub mod Back
+pub mod Yields
 pub mod Separated

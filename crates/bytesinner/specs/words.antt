@@ -1,3 +1,4 @@
 pub mod Words
 pub mod Few
-pub mod Left
+pub mod Runs
+pub mod Yields

@@ -3,6 +3,7 @@
 ghost use Rattle.std.specs.Prelude.{true, false, Ok};
 ghost use Rattle.std.specs.List.{concat};
 ghost use Rattle.anystr.specs.Places.{Lists};
+ghost use Rattle.bytesinner.specs.Written.{OfWritten, Cuttable};
 ghost use Rattle.bytesinner.specs.lines.Lines.{lines_of, LinesLaw};
 
 use anystr::place::Place;
@@ -22,8 +23,8 @@ pub struct SplitLinesArgs {
     pub keepends: bool,
 }
 
-// The lines of a text, as places; a line end at the end of the text begins no further line. Refused where the list
-// has too few entries.
+/// The lines of a text, as places in bytes that can be cut out of it; a line end at the end of the text begins no further
+/// line. Refused where the list has too few entries.
 pub fn splitlines<S: AsciiStr>(
     text: &S,
     args: SplitLinesArgs,
@@ -31,6 +32,8 @@ pub fn splitlines<S: AsciiStr>(
 ) -> Result<usize, Refusal>
     ensures value { Lists (Ok (lines_of (concat (S.AnyStr.elements text.now)) args.keepends)) places.old places.new result }
     ensures law { LinesLaw (concat (S.AnyStr.elements text.now)) (lines_of (concat (S.AnyStr.elements text.now)) false) (lines_of (concat (S.AnyStr.elements text.now)) true) }
+    ensures cut { OfWritten (Cuttable (S.AnyStr.elements text.now)) places.new result }
 {
+    text.ascii_apart();
     list(Lines::new(*text, LineEnds, args.keepends), places)
 }

@@ -31,16 +31,16 @@ fn show_played<S: AnyStr>(
     calls: &[Call<S>],
 ) -> Result<(), Stop> {
     let mut answers = vec![in page.heap; Answer::Next(None); calls.len()]?;
-    let mut label = Label::new();
+    let mut labels = [Label::new()];
     play(
         row.text,
         row.comma,
         UNBOUNDED,
         calls,
-        &mut label,
+        &mut labels,
         answers.as_mut_slice(),
     )?;
-    Ok(show_answers(page, row, names, answers.as_slice(), &label)?)
+    Ok(show_answers(page, row, names, answers.as_slice(), &labels[0])?)
 }
 
 // The first field skipped, the rest, the next field, and the remainder poured. Pushed one by one: an array of a generic
@@ -50,14 +50,14 @@ fn part_calls<S: AnyStr>(heap: Global, gap: S) -> Result<Vec<Call<S>>, AllocErro
     calls.push(Call::Skip(1))?;
     calls.push(Call::Rest)?;
     calls.push(Call::Next)?;
-    calls.push(Call::Pour(gap))?;
+    calls.push(Call::Pour { to: gap, tray: 0 })?;
     Ok(calls)
 }
 
 // The whole row poured.
 fn whole_calls<S: AnyStr>(heap: Global, gap: S) -> Result<Vec<Call<S>>, AllocError> {
     let mut calls = Vec::new(heap);
-    calls.push(Call::Pour(gap))?;
+    calls.push(Call::Pour { to: gap, tray: 0 })?;
     Ok(calls)
 }
 

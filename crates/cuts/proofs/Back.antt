@@ -1,14 +1,17 @@
 -- What a cutter from the end gives next, by what a searcher answers from the end.
-use Rattle.std.proofs.Common.{◌≡◌, ℕ, suc, ◌-◌, ◌≤◌, min, Bool, false, List, [], ◌∷◌, map, length, ap, ◌∙◌, arith}
+use Rattle.std.proofs.Common.{◌≡◌, ℕ, suc, ◌-◌, ◌≤◌, Bool, true, false, List, [], ◌∷◌, map, length, Some, None, Option, ap, ◌∙◌, arith}
 use lib.ListN.{length-map}
+use Rattle.std.specs.Iterator.{YieldsFirst}
+use Rattle.std.specs.Option.{option_map}
 use Rattle.anystr.specs.Limits.{most_bytes}
 use Rattle.searchers.specs.Marks.{Span, Lawful, Greatest, NoneBefore}
-use Rattle.cuts.specs.Cuts.{Opening, size, State, at, fewer, between, cut_from, pieces_left}
-use Rattle.cuts.specs.Splits.{flip, from_end, left_back}
+use Rattle.cuts.specs.Cuts.{Opening, size, State, at, fewer, cut_from, pieces_left, next_of}
+use Rattle.cuts.specs.Splits.{flip, from_end, left_back, next_back}
 use Rattle.cuts.proofs.Greedy.{Few}
-use Rattle.cuts.proofs.Found.{cut-found, none_found, used_up}
+use Rattle.cuts.proofs.Found.{next-cut, next-rest, none_found, used_up}
 use Rattle.cuts.proofs.Mirror.{mirror-lawful, mirror-least, mirror-none}
 use Rattle.cuts.proofs.Sizes.{pieces-few}
+use Rattle.cuts.proofs.Yielding.{next_yields}
 
 module _ (on : Opening) (law : Lawful on.marks (size on)) where
   end-law : Lawful (from_end on).marks (size (from_end on))
@@ -17,32 +20,45 @@ module _ (on : Opening) (law : Lawful on.marks (size on)) where
   pub back_few : size on ≤ most_bytes → (s : State) → length (left_back on s) ≤ suc most_bytes
   back_few few s = omega (arith, length-map (pieces_left (from_end on) s) (flip (size on)), pieces-few (from_end on) end-law few s)
 
-  module _ (place made : ℕ) (spent : Bool) (unspent : spent ≡ false) (end : ℕ) (is : end ≡ min place (size on)) where
-    -- the piece up to the place, and the pieces left after it
-    flipped : (a : ℕ) (rest : List Span) → a ≤ size on → pieces_left (from_end on) (at (size on - place) made false) ≡ (size on - place, size on - a) ∷ rest
-        → left_back on (at (size on - place) made spent) ≡ (a, end) ∷ map (flip (size on)) rest
-    flipped a rest within e =
+  -- the next piece is the first of those that are left
+  pub back_yields : (place made : ℕ) (spent : Bool)
+      → YieldsFirst (left_back on) (at place made spent) (next_back on (at place made spent)).0 (next_back on (at place made spent)).1
+  back_yields place made spent = turned (next_of (from_end on) s).0 (next_yields (from_end on) end-law place made spent)
+    where
+      s : State
+      s = at place made spent
+
+      turned : (r : Option Span) → YieldsFirst (pieces_left (from_end on)) s r (next_of (from_end on) s).1
+          → YieldsFirst (left_back on) s (option_map (flip (size on)) r) (next_of (from_end on) s).1
+      turned None h = (ap (map (flip (size on))) h.0, ap (map (flip (size on))) h.1)
+      turned (Some p) h = ap (map (flip (size on))) h
+
+  module _ (place made : ℕ) (spent : Bool) (unspent : spent ≡ false) (within : place ≤ size on) where
+    -- what comes where so much comes seen from the end
+    seen_next : (a : ℕ) (t : State) → a ≤ size on
+        → next_of (from_end on) (at (size on - place) made false) ≡ (Some (size on - place, size on - a), t)
+        → next_back on (at (size on - place) made spent) ≡ (Some (a, place), t)
+    seen_next a t le e =
         let start : size on - (size on - a) ≡ a = omega arith in
-        let stop : size on - (size on - place) ≡ end = omega arith in
-        ap (λ (b : Bool). left_back on (at (size on - place) made b)) unspent
-        ∙ (ap (map (flip (size on))) e ∙ (λ i. (start i, stop i) ∷ map (flip (size on)) rest))
+        let stop : size on - (size on - place) ≡ place = omega arith in
+        (λ i. next_back on (at (size on - place) made (unspent i)))
+        ∙ ((λ i. (option_map (flip (size on)) (e i).0, (e i).1)) ∙ (λ i. (Some (start i, stop i), t)))
 
-    rest-left : cut_from (from_end on) made (size on - place) ≡ [] → left_back on (at (size on - place) made spent) ≡ (0, end) ∷ []
-    rest-left none =
+    -- the piece from the start of the text, which is the last
+    back_rest : cut_from (from_end on) made (size on - place) ≡ []
+        → next_back on (at (size on - place) made spent) ≡ (Some (0, place), at (size on) made true)
+    back_rest none =
         let all : size on ≡ size on - 0 = omega arith in
-        flipped 0 [] (omega arith) (ap (between (size on - place) (size on)) none ∙ (λ i. (size on - place, all i) ∷ []))
+        seen_next 0 _ (omega arith) (next-rest (from_end on) end-law made (size on - place) none ∙ (λ i. (Some (size on - place, all i), at (size on) made true)))
 
-    pub back_used : (fewer made on.bound ≡ false) → left_back on (at (size on - place) made spent) ≡ (0, end) ∷ []
-    back_used used = rest-left (used_up (from_end on) end-law made (size on - place) used)
+    pub back_used : (fewer made on.bound ≡ false) → next_back on (at (size on - place) made spent) ≡ (Some (0, place), at (size on) made true)
+    back_used used = back_rest (used_up (from_end on) end-law made (size on - place) used)
 
-    from : size on - end ≡ size on - place
-    from = omega arith
+    pub back_none : NoneBefore on.marks place → next_back on (at (size on - place) made spent) ≡ (Some (0, place), at (size on) made true)
+    back_none none = back_rest (none_found (from_end on) end-law made (size on - place) (mirror-none on.marks (size on) law place within none))
 
-    pub back_none : NoneBefore on.marks end → left_back on (at (size on - place) made spent) ≡ (0, end) ∷ []
-    back_none none = rest-left (none_found (from_end on) end-law made (size on - place) (rw from at (mirror-none on.marks (size on) law end (omega arith) none)))
-
-    pub back_cut : (a e : ℕ) → Few on.bound made → Greatest on.marks end a e
-        → left_back on (at (size on - place) made spent) ≡ (e, end) ∷ left_back on (at (size on - a) (suc made) false)
+    pub back_cut : (a e : ℕ) → Few on.bound made → Greatest on.marks place a e
+        → next_back on (at (size on - place) made spent) ≡ (Some (e, place), at (size on - a) (suc made) false)
     back_cut a e few g =
-        let least = rw from at (mirror-least on.marks (size on) law end a e (omega arith) g) in
-        flipped e _ (law.within a e g.is) (ap (between (size on - place) (size on)) (cut-found (from_end on) end-law made (size on - place) (size on - e) (size on - a) few least))
+        let least = mirror-least on.marks (size on) law place a e within g in
+        seen_next e _ (law.within a e g.is) (next-cut (from_end on) end-law made (size on - place) (size on - e) (size on - a) few least)

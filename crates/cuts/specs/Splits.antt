@@ -1,7 +1,8 @@
 -- What a text is split into at marks, from the front and from the end. Assumes nothing.
-use Rattle.std.specs.Prelude.{◌≡◌, ℕ, ◌+◌, ◌-◌, ◌<◌, ◌≤◌, cond, ◌&&◌, T, List, [], ◌∷◌, map, reverse, ℤ, nat_le, nat_lt}
+use Rattle.std.specs.Prelude.{◌≡◌, ℕ, ◌+◌, ◌-◌, ◌<◌, ◌≤◌, cond, ◌&&◌, T, List, [], ◌∷◌, map, reverse, ℤ, Option, nat_le, nat_lt}
+use Rattle.std.specs.Option.{option_map}
 use Rattle.searchers.specs.Marks.{Marks, Span}
-use Rattle.cuts.specs.Cuts.{all_marks, cuts, between, fewer, Opening, size, State, pieces_left}
+use Rattle.cuts.specs.Cuts.{all_marks, cuts, between, fewer, Opening, size, State, pieces_left, next_of}
 use Rattle.cuts.specs.Runs.{In, Overlap}
 
 -- the pieces of a text of `len` bytes, cut at marks from the front while fewer cuts are made than the bound
@@ -31,6 +32,10 @@ from_end on = record { marks = mirror on.marks (size on); bytes = on.bytes; boun
 -- the pieces that are left to a cutter from the end, whose state is seen from the end, in the order in which it gives them
 abbrev pub left_back : Opening → State → List Span
 left_back on s = map (flip (size on)) (pieces_left (from_end on) s)
+
+-- next of such a cutter: what it gives, and the state after it
+abbrev pub next_back : Opening → State → Option Span × State
+next_back on s = (option_map (flip (size on)) (next_of (from_end on) s).0, (next_of (from_end on) s).1)
 
 -- no later cut overlaps the mark
 abbrev pub FreeBack : List Span → Span → Type 0

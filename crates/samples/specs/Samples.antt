@@ -1,5 +1,5 @@
 -- The samples: what the definitions give, beside what is expected. Assumes nothing.
-use Rattle.std.specs.Prelude.{◌≡◌, ℕ, Bool, true, false, cond, List, [], ◌∷◌, map, length, ℤ, pos, negsuc, Some, None, Ok, Err, codes, Option, Result, nat_lt}
+use Rattle.std.specs.Prelude.{◌≡◌, ℕ, Bool, true, false, List, [], ◌∷◌, map, ℤ, pos, negsuc, Some, None, Ok, Err, codes, Option, Result}
 use Rattle.anystr.specs.Indices.{start_of, end_of}
 use Rattle.anystr.specs.OfBytes.{singles}
 use Rattle.anystr.specs.Places.{part}
@@ -7,7 +7,7 @@ use Rattle.anystr.specs.declared.optional.OptionalArg.{OptionalArg}
 use Rattle.anystr.specs.declared.optional.OptionalArg.TheVariants.{Present, Missing}
 use Rattle.searchers.specs.Marks.{Span}
 use Rattle.searchers.specs.substring.Occurrences.{occurrence}
-use Rattle.cuts.specs.Cuts.{Sheet, State, opened, pieces_left, next_of, nexts}
+use Rattle.cuts.specs.Cuts.{Opening, at_opening, next_of, nexts, skip_of, pour_of}
 use Rattle.bytesinner.specs.finds.Counts.{count_of}
 use Rattle.bytesinner.specs.finds.Places.{find_of}
 use Rattle.bytesinner.specs.lines.Lines.{lines_of}
@@ -34,13 +34,10 @@ abbrev pub appended : Result (List ℕ) (ℕ × ℕ) → Outcome
 appended (Ok bs) = bytes bs
 appended (Err code) = refused code
 
--- skip on a cutter: refused where it asks for more pieces than are left
-abbrev pub skipped : Sheet → State → ℕ → Outcome
-skipped on s n = cond (nat_lt (length (pieces_left on s)) n) (refused (9, length (pieces_left on s))) accepted
-
--- pour on a cutter, into a tray with room: refused where it is spent
-abbrev pub poured : State → Outcome
-poured s = cond s.spent (refused (8, 0)) accepted
+-- what a call without a value answers
+abbrev pub answered : Result (Unit {0}) (ℕ × ℕ) → Outcome
+answered (Ok tt) = accepted
+answered (Err code) = refused code
 
 -- an outcome beside the one that is expected
 pub record Sample : Type 0 where
@@ -67,8 +64,8 @@ abbrev pub empty : List ℕ
 empty = []
 
 -- a cutter on `a,b` by a comma, without a bound
-abbrev pub sheet : Sheet
-sheet = record { marks = occurrence (codes ",") (codes "a,b"); bytes = codes "a,b"; bound = unbounded }
+abbrev pub commas : Opening
+commas = record { marks = occurrence (codes ",") (codes "a,b"); bytes = codes "a,b"; bound = unbounded }
 
 -- `a`, carriage return, line feed, carriage return, `b`, line feed
 abbrev pub three_lines : List ℕ
@@ -94,10 +91,11 @@ samples =
     ∷ is (found (find_of (codes "anna") (codes "n") (start_of (Some (negsuc 2)) 4) (end_of None 4))) (found (Some 1))
     ∷ is (found (find_of (codes "anna") (codes "n") (start_of (Some (pos 5)) 4) (end_of None 4))) (found None)
     ∷ is (number (count_of (codes "anna") empty (start_of None 4) (end_of None 4))) (number 5)
-    ∷ is (skipped sheet opened 3) (refused (9, 2))
-    ∷ is (skipped sheet opened 2) accepted
-    ∷ is (next (next_of sheet (nexts sheet 2 opened)).0) (next None)
-    ∷ is (poured (nexts sheet 2 opened)) (refused (8, 0))
+    ∷ is (answered (skip_of commas 3 at_opening)) (refused (9, 2))
+    ∷ is (answered (skip_of commas 2 at_opening)) accepted
+    ∷ is (next (next_of commas (nexts commas 2 at_opening)).0) (next None)
+    ∷ is (appended (pour_of commas (codes "; ") at_opening)) (bytes (codes "a; b"))
+    ∷ is (appended (pour_of commas (codes "; ") (nexts commas 2 at_opening))) (refused (8, 0))
     ∷ []
 
 -- each sample is as expected

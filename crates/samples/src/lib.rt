@@ -9,7 +9,7 @@ pub fn sample_count() -> usize
     ensures value { result ≡ length samples }
     ensures hold { SamplesHold }
 {
-    22
+    23
 }
 
 #[cfg(test)]

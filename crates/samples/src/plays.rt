@@ -6,6 +6,9 @@ use cutters::bound::UNBOUNDED;
 use cutters::piece::Piece;
 use cutters::play::{Answer, Call, play};
 use searchers::substring::Substring;
+use trays::anytray::AnyTray;
+use trays::buffer::Buffer;
+use trays::container::AnyStrContainer;
 use trays::label::Label;
 
 // no call below answers so
@@ -17,7 +20,10 @@ fn played<const ROOM: usize>() -> (Code, [Answer; ROOM]) {
         Call::Skip(3),
         Call::Skip(2),
         Call::Next,
-        Call::Pour(Bytes::new(b"+")),
+        Call::Pour {
+            to: Bytes::new(b"+"),
+            tray: 0,
+        },
     ];
     let mut answers = [UNWRITTEN; ROOM];
     let played = play(
@@ -25,7 +31,7 @@ fn played<const ROOM: usize>() -> (Code, [Answer; ROOM]) {
         Substring::new(Bytes::new(b",")),
         UNBOUNDED,
         &calls,
-        &mut Label::new(),
+        &mut [Label::new()],
         &mut answers,
     );
     (code(played), answers)
@@ -52,4 +58,40 @@ fn a_list_of_calls(rt: HostRuntime) {
 #[test]
 fn too_few_entries(rt: HostRuntime) {
     assert_eq!(rt; played(), (Err((7, 4)), [UNWRITTEN; 3]));
+}
+
+// A pour into each of several trays: one over 2 bytes that are lent, which has too few free, one that the list has not,
+// and a label.
+#[test]
+fn several_trays(rt: HostRuntime) {
+    let mut lent = *b"zz";
+    let to = Bytes::new(b"; ");
+    let calls = [
+        Call::Pour { to, tray: 0 },
+        Call::Pour { to, tray: 2 },
+        Call::Pour { to, tray: 1 },
+    ];
+    let mut answers = [UNWRITTEN; 3];
+    let mut trays = [
+        AnyTray::Lent(Buffer::new(&mut lent)),
+        AnyTray::Own(Label::new()),
+    ];
+    let played = play(
+        Bytes::new(b"a,b"),
+        Substring::new(Bytes::new(b",")),
+        UNBOUNDED,
+        &calls,
+        &mut trays,
+        &mut answers,
+    );
+    assert_eq!(rt; code(played), Ok(()));
+    assert_eq!(rt;
+        answers,
+        [
+            Answer::Pour(Err(Refusal::TooSmall { needed: 4 })),
+            Answer::Pour(Err(Refusal::TooSmall { needed: 4 })),
+            Answer::Pour(Ok(())),
+        ]
+    );
+    assert_eq!(rt; (trays[0].free(), trays[1].free()), (2, 76));
 }

@@ -9,10 +9,10 @@ use Rattle.cuts.specs.Cuts.{between, cuts, all_marks}
 use Rattle.cuts.proofs.Greedy.{Greedy}
 use Rattle.cuts.proofs.Listed.{greedy_cuts}
 use Rattle.bytesinner.specs.lines.Lines.{filled, kept, lines_of, Bare, Reads, ended, line, last, bytes_of, LinesLaw}
-use Rattle.bytesinner.proofs.lines.Step.{filled-cons, starts}
+use Rattle.bytesinner.specs.lines.Step.{filled-cons, starts}
 
 -- each of the three is a mark
-is-mark : (bs : List ℕ) (a e : ℕ) → LineEnd bs a e → line_end bs a e ≡ true
+pub is-mark : (bs : List ℕ) (a e : ℕ) → LineEnd bs a e → line_end bs a e ≡ true
 is-mark bs a e (pair x y z) = or_left _ _ (and_from _ _ (eq-eqb _ _ x) (and_from _ _ (eq-eqb _ _ y) (eq-eqb _ _ z)))
 is-mark bs a e (lone_cr x y z) = or_right _ _ (or_left _ _ (and_from _ _ (eq-eqb _ _ x) (and_from _ _ (not_from_false _ (ne_eqb _ _ y)) (eq-eqb _ _ z))))
 is-mark bs a e (lone_lf x y z) =

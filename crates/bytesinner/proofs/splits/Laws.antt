@@ -11,14 +11,15 @@ use Rattle.cuts.specs.Runs.{In}
 use Rattle.cuts.specs.Splits.{SplitBy}
 use Rattle.cuts.proofs.Splits.{split-rule, rsplit-rule, split-restores, split-on}
 use Rattle.anystr.proofs.Boundaries.{end_on}
-use Rattle.bytesinner.specs.splits.Separated.{separated, split_of, rsplit_of, OfWritten, SplitFront, SplitBack, Restore, Cuttable}
+use Rattle.bytesinner.specs.Written.{OfWritten, Cuttable}
+use Rattle.bytesinner.specs.splits.Separated.{separated, split_of, rsplit_of, SplitFront, SplitBack, Restore}
+use Rattle.bytesinner.proofs.Written.{written}
 
 -- what holds of the pieces holds of the places that are written
-written : (P : List Span → Type 0) (sep : List ℕ) (ps : List Span) → P ps → (list list' : List Place) (r : Result ℕ Refusal) → Lists (separated sep ps) list list' r → OfWritten P list' r
-written P [] ps p list list' (Ok n) h = let z : ◌≡◌ {A = ℕ} 0 1 = let e = h.0 in cc in absurd (omega arith)
-written P [] ps p list list' (Err e) h = tt
-written P (b ∷ bs) ps p list list' (Ok n) h = subst P (sym h.2) p
-written P (b ∷ bs) ps p list list' (Err e) h = tt
+split_written : (P : List Span → Type 0) (sep : List ℕ) (ps : List Span) → P ps → (list list' : List Place) (r : Result ℕ Refusal) → Lists (separated sep ps) list list' r → OfWritten P list' r
+split_written P [] ps p list list' (Ok n) h = let z : ◌≡◌ {A = ℕ} 0 1 = let e = h.0 in cc in absurd (omega arith)
+split_written P [] ps p list list' (Err e) h = tt
+split_written P (b ∷ bs) ps p list list' r h = written P ps p list list' r h
 
 -- an occurrence of the separator reads as it
 reads : (bytes sep : List ℕ) (m : Span) → T (occurrence sep bytes m.0 m.1) → part bytes m ≡ sep
@@ -54,9 +55,9 @@ module _ (Rule : List Span → Type 0) (es : List (List ℕ)) (sep : List ℕ) (
 
   kept : (list list' : List Place) (r : Result ℕ Refusal) → Lists (separated sep ps) list list' r → Kept (SplitBy Rule (length (concat es))) es sep list' r
   kept list list' r h = record {
-    rule = written (SplitBy Rule (length (concat es))) sep ps by list list' r h;
-    restores = written (Restore (concat es) sep) sep ps (split-restores Rule sep (concat es) ps (λ cut rule m k. reads (concat es) sep m (marked cut rule m k)) by) list list' r h;
-    cut = written (Cuttable es) sep ps cuttable list list' r h;
+    rule = split_written (SplitBy Rule (length (concat es))) sep ps by list list' r h;
+    restores = split_written (Restore (concat es) sep) sep ps (split-restores Rule sep (concat es) ps (λ cut rule m k. reads (concat es) sep m (marked cut rule m k)) by) list list' r h;
+    cut = split_written (Cuttable es) sep ps cuttable list list' r h;
   }
 
 module _ (es : List (List ℕ)) (sep : List ℕ) (whole : Whole es sep) (maxsplit : ℤ) (list list' : List Place) (r : Result ℕ Refusal) where

@@ -10,10 +10,10 @@ use Rattle.anystr.specs.declared.refusal.Refusal.{Refusal}
 use Rattle.searchers.specs.Marks.{Marks, Span}
 use Rattle.searchers.specs.declared.searcher.Searcher
 use Rattle.searchers.specs.substring.Occurrences.{occurrence}
-use Rattle.searchers.specs.declared.substring.Substring.{Substring}
 use Rattle.cuts.specs.Cuts.{at_opening}
 use Rattle.cuts.specs.Splits.{pieces_of, flip, mirror, left_back}
-use Rattle.bytesinner.specs.splits.Back.{opening, state}
+use Rattle.cutters.specs.Calls.{opening_of}
+use Rattle.bytesinner.specs.splits.Back.{state, left, IsOn}
 use Rattle.bytesinner.specs.splits.Separated.{separated}
 use Rattle.bytesinner.specs.declared.splits.back.BackCutter.{BackCutter}
 
@@ -22,16 +22,9 @@ abbrev pub from_back : (bytes sep : List ℕ) → ℤ → List Span
 from_back bytes sep maxsplit = map (flip (length bytes)) (pieces_of (mirror (occurrence sep bytes) (length bytes)) (length bytes) maxsplit)
 
 -- what a cutter from the end has left where it has just been opened
-module _ {S C : Type 0} (elements : S → List (List ℕ)) where
-  abbrev found : Substring S C → List (List ℕ) → Marks
-  found f es = occurrence (concat (elements f.needle)) (concat es)
-
-  pub opened-left : {s : AnyStr.Ghosts S C} {f : Searcher.Ghosts (Substring S C) S C} (c : BackCutter S (Substring S C) C s f) (text sep : S) (searcher : Substring S C) (bound : ℤ)
-      → c.text ≡ text → c.searcher ≡ searcher → c.bound ≡ bound → state elements c ≡ at_opening → searcher.needle ≡ sep
-      → left_back (opening found elements c) (state elements c) ≡ from_back (concat (elements text)) (concat (elements sep)) bound
-  opened-left c text sep searcher bound on for upto at_first needle =
-      (λ i. left_back (record { marks = found (for i) (elements (on i)); bytes = concat (elements (on i)); bound = upto i }) (at_first i))
-      ∙ (λ i. from_back (concat (elements text)) (concat (elements (needle i))) bound)
+pub opened-left : {S F C : Type 0} {s : AnyStr.Ghosts S C} {f : Searcher.Ghosts F S C} {text : S} {searcher : F} {bound : ℤ} (c : BackCutter S F C s f)
+    → IsOn text searcher bound c → state c ≡ at_opening → left c ≡ left_back (opening_of s f text searcher bound) at_opening
+opened-left {s = s} {f = f} c on first = λ i. left_back (opening_of s f (on.text i) (on.searcher i) (on.bound i)) (first i)
 
 stretches-reverse : (ps : List Place) → stretches (reverse ps) ≡ reverse (stretches ps)
 stretches-reverse [] = refl

@@ -1,5 +1,6 @@
 -- The lists that a bound makes of the runs, as they are written.
-use Rattle.std.proofs.Common.{◌≡◌, ℕ, zero, suc, ◌+◌, ◌-◌, ◌<◌, ◌≤◌, min, ltb, List, [], ◌∷◌, ◌++◌, length, get_or, take, drop, set, ℤ, pos, negsuc, Ok, sym, refl, ap, ◌∙◌, subst, ⊎_elim, arith, length-drop, length-take, w64, SFits, to_z, of_z}
+use Rattle.std.proofs.Common.{◌≡◌, ℕ, zero, suc, ◌+◌, ◌-◌, ◌<◌, ◌≤◌, min, ltb, List, [], ◌∷◌, ◌++◌, length, get_or, take, drop, set, ℤ, pos, negsuc, Ok, Err, Result, sym, refl, ap, ◌∙◌, subst, ⊎_elim, arith, length-drop, length-take, w64, SFits, to_z, of_z}
+use Rattle.std.specs.Prelude.{if◌then◌else◌, nat_le}
 use Rattle.std.proofs.lemmas.List.{take_all, drop-set-lt, length-map, take-append-le, drop-append-le, take-append-drop}
 use Rattle.std.proofs.lemmas.Bool.{lt-ltb, le-ltb, cases_lt, cond-true, cond-false}
 use Rattle.std.proofs.lemmas.Int.{to_z-of_z}
@@ -12,11 +13,6 @@ use Rattle.bytesinner.specs.words.Words.{alone, to_end, from_start, words_of, rw
 pub alone-within : (total : ℕ) (bound : ℤ) → alone total bound ≤ total
 alone-within total (pos b) = omega arith
 alone-within total (negsuc b) = omega arith
-
--- the room that was given
-pub record Given (m len n : ℕ) : Type 0 where
-  pub is : n ≡ m
-  pub fits : m ≤ len
 
 length-to_end : (len : ℕ) (rs : List Span) → length (to_end len rs) ≡ length rs
 length-to_end len [] = refl
@@ -64,14 +60,37 @@ pub record Wanted (rs : List Span) (bound : ℤ) (total a m : ℕ) : Type 0 wher
   pub alone_is : a ≡ alone total bound
   pub is : m ≡ min total (a + 1)
 
+-- as the calls count them
 pub wanted : {rs : List Span} {bound : ℤ} {total a m : ℕ} → total ≡ length rs → SFits w64 bound → a ≡ alone total (to_z w64 (of_z w64 bound)) → m ≡ min total (a + 1) → Wanted rs bound total a m
 wanted {total = total} t fits a m = record { total_is = t; alone_is = a ∙ ap (alone total) (to_z-of_z w64 _ fits); is = m }
+
+-- the room that was given in a list
+pub record Given (m n : ℕ) (list : List Place) : Type 0 where
+  pub is : n ≡ m
+  pub fits : m ≤ length list
+
+-- a call that passes gives it
+pub given : {m n : ℕ} (list : List Place) → ◌≡◌ {A = Result ℕ (ℕ × ℕ)} (Ok n) (if nat_le m (length list) then Ok m else Err (7, m)) → Given m n list
+given list is = record { is = grind arith; fits = grind arith }
+
+-- what was written into the front of a list was written into the list
+pub filled-front : {xs ys : List Span} {m n : ℕ} {list part : List Place} → Given m n list → xs ≡ ys → length part ≡ length (take n list) → Filled (take (length (take n list)) xs) (take n list) part → Filled (take n ys) list (part ++ drop n list)
+filled-front {xs} {ys} {m} {n} {list} {part} room same l f =
+    let t : length (take n list) ≡ n = length-take n list ∙ omega (arith, room.is, room.fits) in
+    let ps : List Span = take (length (take n list)) xs in
+    let few : length ps ≤ length part = omega (arith, length-take (length (take n list)) xs) in
+    let whole : Filled ps list (part ++ drop n list) = record {
+      written = ap stretches (take-append-le (length ps) part (drop n list) few) ∙ f.written;
+      others = drop-append-le (length ps) part (drop n list) few ∙ ap (λ (ys : List Place). ys ++ drop n list) f.others ∙ sym (drop-append-le (length ps) (take n list) (drop n list) (omega arith))
+          ∙ ap (drop (length ps)) (take-append-drop n list);
+    } in
+    subst (λ (qs : List Span). Filled qs list (part ++ drop n list)) (λ i. take (t i) (same i)) whole
 
 -- what a list past its end is read as
 abbrev none : Place
 none = record { start = 0; end = 0 }
 
-module _ (rs : List Span) (bound : ℤ) (total a m : ℕ) (w : Wanted rs bound total a m) where
+module _ {rs : List Span} {bound : ℤ} {total a m : ℕ} (w : Wanted rs bound total a m) where
   stay : alone (length rs) bound ≡ a
   stay = ap (λ (t : ℕ). alone t bound) (sym w.total_is) ∙ sym w.alone_is
 
@@ -103,58 +122,51 @@ module _ (rs : List Span) (bound : ℤ) (total a m : ℕ) (w : Wanted rs bound t
       (λ le. ap length (rwords_whole le) ∙ omega (arith, w.is, w.total_is, few))
       (cases_lt a total)
 
-  module _ (list list' : List Place) (n : ℕ) (room : Given m (length list) n) where
+  module _ {list : List Place} {n : ℕ} (room : Given m n list) where
     n_is : n ≡ min total (a + 1)
     n_is = room.is ∙ w.is
 
-    module _ (len : ℕ) (f : Filled (take n rs) list list') where
-      came : Put (take n rs) n list list'
-      came = put (take n rs) n list list' (length-take n rs ∙ omega (arith, n_is, w.total_is)) f
+    -- all the runs
+    all_put : {list' : List Place} (ps qs : List Span) → total ≤ a → ps ≡ rs → qs ≡ rs → Filled (take n qs) list list' → Lists (Ok ps) list list' (Ok n)
+    all_put {list'} ps qs le are same f =
+        let l : length rs ≡ n = omega (arith, n_is, w.total_is) in
+        let all : take n qs ≡ rs = ap (take n) same ∙ take_all n rs (omega (arith, l)) in
+        let c = put rs n list list' l (subst (λ (xs : List Span). Filled xs list list') all f) in
+        lists ps list list' n (sym l ∙ ap length (sym are)) (omega (arith, room.is, room.fits)) (c.written ∙ sym are) c.others
 
-      to_len : a < total → Lists (Ok (words_of rs len bound)) list (set list' a (record { start = (get_or list' a none).start; end = len })) (Ok n)
-      to_len lt =
+    pub words_put : (len : ℕ) {list' : List Place} → total ≤ a → Filled (take n rs) list list' → Lists (Ok (words_of rs len bound)) list list' (Ok n)
+    words_put len le f = all_put _ rs le (words_whole len le) refl f
+
+    pub rwords_put : {list' : List Place} → total ≤ a → Filled (take n (drop (total - n) rs)) list list' → Lists (Ok (rwords_of rs bound)) list list' (Ok n)
+    rwords_put le f = let z : total - n ≡ 0 = omega (arith, n_is) in all_put _ _ le (rwords_whole le) (ap (λ (k : ℕ). drop k rs) z) f
+
+    -- some of them, and one place more
+    module _ (lt : a < total) where
+      one_more : n ≡ suc a
+      one_more = omega (arith, n_is)
+
+      to_len : (len : ℕ) {list' : List Place} → Filled (take n rs) list list' → Lists (Ok (words_of rs len bound)) list (set list' a (record { start = (get_or list' a none).start; end = len })) (Ok n)
+      to_len len {list'} f =
           let d = none in
           let last : Place = record { start = (get_or list' a d).start; end = len } in
-          let s : n ≡ suc a = omega (arith, n_is) in
-          let set_last : stretches (take (suc a) (set list' a last)) ≡ to_end len (stretches (take (suc a) list')) = set_end list' a len d (omega (arith, came.within)) in
+          let c : Put (take n rs) n list list' = put (take n rs) n list list' (length-take n rs ∙ omega (arith, n_is, w.total_is)) f in
+          let set_last : stretches (take (suc a) (set list' a last)) ≡ to_end len (stretches (take (suc a) list')) = set_end list' a len d (omega (arith, c.within, one_more)) in
           lists (words_of rs len bound) list (set list' a last) n (room.is ∙ sym (words_length len)) (omega (arith, room.is, room.fits))
-          (ap (λ (k : ℕ). stretches (take k (set list' a last))) s ∙ set_last ∙ ap (λ (k : ℕ). to_end len (stretches (take k list'))) (sym s) ∙ ap (to_end len) (came.written ∙ ap (λ (k : ℕ). take k rs) s) ∙ sym (words_cut len lt))
-          (drop-set-lt n list' a last (omega arith) ∙ came.others)
+          (ap (λ (k : ℕ). stretches (take k (set list' a last))) one_more ∙ set_last ∙ ap (λ (k : ℕ). to_end len (stretches (take k list'))) (sym one_more) ∙ ap (to_end len) (c.written ∙ ap (λ (k : ℕ). take k rs) one_more) ∙ sym (words_cut len lt))
+          (drop-set-lt n list' a last (omega (arith, one_more)) ∙ c.others)
 
-      pub words_put_cut : a < total → (end : ℕ) → end ≡ len → Lists (Ok (words_of rs len bound)) list (set list' a (record { start = (get_or list' a none).start; end = end })) (Ok n)
-      words_put_cut lt end is = subst (λ (k : ℕ). Lists (Ok (words_of rs len bound)) list (set list' a (record { start = (get_or list' a none).start; end = k })) (Ok n)) (sym is) (to_len lt)
+      pub words_put_cut : (end len : ℕ) {list' : List Place} → end ≡ len → Filled (take n rs) list list' → Lists (Ok (words_of rs len bound)) list (set list' a (record { start = (get_or list' a none).start; end = end })) (Ok n)
+      words_put_cut end len {list'} is f = subst (λ (k : ℕ). Lists (Ok (words_of rs len bound)) list (set list' a (record { start = (get_or list' a none).start; end = k })) (Ok n)) (sym is) (to_len len f)
 
-    module _ (f : Filled (take n (drop (total - n) rs)) list list') where
-      last_runs : take n (drop (total - n) rs) ≡ drop (length rs - n) rs
-      last_runs = ap (λ (t : ℕ). take n (drop (t - n) rs)) w.total_is ∙ take_all n (drop (length rs - n) rs) (omega (arith, length-drop (length rs - n) rs))
-
-      came_last : Put (drop (length rs - n) rs) n list list'
-      came_last = put (drop (length rs - n) rs) n list list' (length-drop (length rs - n) rs ∙ omega (arith, n_is, w.total_is)) (subst (λ (ps : List Span). Filled ps list list') last_runs f)
-
-      pub rwords_put : total ≤ a → Lists (Ok (rwords_of rs bound)) list list' (Ok n)
-      rwords_put le =
-          let z : length rs - n ≡ 0 = omega (arith, n_is, w.total_is) in
-          lists (rwords_of rs bound) list list' n (room.is ∙ sym rwords_length) (omega (arith, room.is, room.fits)) (came_last.written ∙ ap (λ (k : ℕ). drop k rs) z ∙ sym (rwords_whole le)) came_last.others
-
-      pub rwords_put_cut : a < total → Lists (Ok (rwords_of rs bound)) list (set list' 0 (record { start = 0; end = (get_or list' 0 none).end })) (Ok n)
-      rwords_put_cut lt =
+      pub rwords_put_cut : {list' : List Place} → Filled (take n (drop (total - n) rs)) list list' → Lists (Ok (rwords_of rs bound)) list (set list' 0 (record { start = 0; end = (get_or list' 0 none).end })) (Ok n)
+      rwords_put_cut {list'} f =
           let d = none in
           let first : Place = record { start = 0; end = (get_or list' 0 d).end } in
-          let s : n ≡ suc a = omega (arith, n_is) in
-          let set_first : stretches (take (suc a) (set list' 0 first)) ≡ from_start (stretches (take (suc a) list')) = set_start list' a d (omega (arith, came_last.within)) in
+          let which : drop (total - n) rs ≡ drop (length rs - suc a) rs = λ i. drop (w.total_is i - one_more i) rs in
+          let l : length (drop (length rs - suc a) rs) ≡ n = length-drop (length rs - suc a) rs ∙ omega (arith, one_more, w.total_is) in
+          let last_runs : take n (drop (total - n) rs) ≡ drop (length rs - suc a) rs = ap (take n) which ∙ take_all n _ (omega (arith, l)) in
+          let c = put (drop (length rs - suc a) rs) n list list' l (subst (λ (ps : List Span). Filled ps list list') last_runs f) in
+          let set_first : stretches (take (suc a) (set list' 0 first)) ≡ from_start (stretches (take (suc a) list')) = set_start list' a d (omega (arith, c.within, one_more)) in
           lists (rwords_of rs bound) list (set list' 0 first) n (room.is ∙ sym rwords_length) (omega (arith, room.is, room.fits))
-          (ap (λ (k : ℕ). stretches (take k (set list' 0 first))) s ∙ set_first ∙ ap (λ (k : ℕ). from_start (stretches (take k list'))) (sym s) ∙ ap from_start (came_last.written ∙ ap (λ (k : ℕ). drop (length rs - k) rs) s) ∙ sym (rwords_cut lt))
-          (drop-set-lt n list' 0 first (omega arith) ∙ came_last.others)
-
--- what was written into the front of a list was written into the list
-pub filled-front : (xs ys : List Span) (n : ℕ) (list part : List Place) → xs ≡ ys → n ≤ length list → length part ≡ length (take n list) → Filled (take (length (take n list)) xs) (take n list) part → Filled (take n ys) list (part ++ drop n list)
-filled-front xs ys n list part same fits l f =
-    let t : length (take n list) ≡ n = length-take n list ∙ omega arith in
-    let ps : List Span = take (length (take n list)) xs in
-    let few : length ps ≤ length part = omega (arith, length-take (length (take n list)) xs) in
-    let whole : Filled ps list (part ++ drop n list) = record {
-      written = ap stretches (take-append-le (length ps) part (drop n list) few) ∙ f.written;
-      others = drop-append-le (length ps) part (drop n list) few ∙ ap (λ (ys : List Place). ys ++ drop n list) f.others ∙ sym (drop-append-le (length ps) (take n list) (drop n list) (omega arith))
-          ∙ ap (drop (length ps)) (take-append-drop n list);
-    } in
-    subst (λ (qs : List Span). Filled qs list (part ++ drop n list)) (λ i. take (t i) (same i)) whole
+          (ap (λ (k : ℕ). stretches (take k (set list' 0 first))) one_more ∙ set_first ∙ ap (λ (k : ℕ). from_start (stretches (take k list'))) (sym one_more) ∙ ap from_start c.written ∙ sym (rwords_cut lt))
+          (drop-set-lt n list' 0 first (omega (arith, one_more)) ∙ c.others)

@@ -89,8 +89,8 @@ module _ (bytes : List ℕ) (place passed len : ℕ) (s : Scanned bytes place pa
       ∙ ends (drop place bytes) (ap (λ (n : ℕ). stretch_len (drop n (drop place bytes)) false) (sym s.over) ∙ (sym s.through ∙ none)) in
       passed_over ∙ (ap (runs_from (place + passed) (place + passed)) at_end ∙ no_run (place + passed))
 
-  pub first_run : 0 < len → runs_from place place (drop place bytes) ≡ (place + passed, place + passed + len) ∷ runs_from (place + passed + len) (place + passed + len) (drop (place + passed + len) bytes)
-  first_run some =
+  pub run_after : 0 < len → runs_from place place (drop place bytes) ≡ (place + passed, place + passed + len) ∷ runs_from (place + passed + len) (place + passed + len) (drop (place + passed + len) bytes)
+  run_after some =
       let start : ℕ = place + passed in
       let end : ℕ = start + len in
       let rest : List ℕ = drop passed (drop place bytes) in

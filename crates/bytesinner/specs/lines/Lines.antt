@@ -1,9 +1,10 @@
 -- The lines of a text, without and with their ends. Assumes nothing.
-use Rattle.std.specs.Prelude.{◌≡◌, ℕ, ◌<◌, ◌≤◌, Bool, cond, List, [], ◌∷◌, ◌++◌, length, negsuc, ◌≢◌, nat_lt, slice_index}
+use Rattle.std.specs.Prelude.{◌≡◌, ℕ, ◌<◌, ◌≤◌, Bool, cond, if◌then◌else◌, List, [], ◌∷◌, ◌++◌, length, negsuc, None, Option, ◌≢◌, nat_lt, slice_index}
+use Rattle.std.specs.Option.{option_map}
 use Rattle.anystr.specs.Places.{part}
 use Rattle.searchers.specs.Marks.{Marks, Span}
 use Rattle.searchers.specs.lineends.Lines.{line_end, LineEnd}
-use Rattle.cuts.specs.Cuts.{Opening, size, State, all_marks, cuts, between, pieces_left}
+use Rattle.cuts.specs.Cuts.{Opening, size, State, all_marks, cuts, between, pieces_left, next_of}
 
 -- the pieces, without the last where it is empty
 abbrev pub filled : List Span → List Span
@@ -36,6 +37,14 @@ lines_of bytes keepends = lines_at (line_end bytes) (length bytes) keepends
 -- the lines that a cutter has left
 abbrev pub lines_left : Opening → Bool → State → List Span
 lines_left on keepends s = lines_from keepends (size on) (pieces_left on s)
+
+-- a piece that a cutter gave as a line, which with its end goes on to the cutter's place after it; and the cutter's state
+abbrev pub as_line : Bool → Option Span × State → Option Span × State
+as_line keepends n = (option_map (λ p. (p.0, if keepends then n.1.place else p.1)) n.0, n.1)
+
+-- the next line of a cutter, and the cutter's state after it: where the rest is empty there is none, and the state stays
+abbrev pub next_line : Opening → Bool → State → Option Span × State
+next_line on keepends s = if nat_lt s.place (size on) then as_line keepends (next_of on s) else (None, s)
 
 -- no line feed or carriage return stands from a to e
 abbrev pub Bare : List ℕ → ℕ → ℕ → Type 0

@@ -4,7 +4,7 @@ use Rattle.std.proofs.Common.{arith, length-drop, length-append}
 use Rattle.std.proofs.lemmas.Bool.{cond_both}
 use Rattle.anystr.specs.Limits.{most_bytes}
 use Rattle.searchers.specs.Marks.{Span}
-use Rattle.bytesinner.specs.words.Words.{space, run, runs_from}
+use Rattle.bytesinner.specs.words.Words.{space, run, runs_from, runs_left}
 
 run_short : (a e : ℕ) → length (run a e) ≤ 1
 run_short a e = cond_both (nat_lt a e) ((a, e) ∷ []) [] (λ (ms : List Span). length ms ≤ 1) (λ _. omega arith) (λ _. omega arith)
@@ -17,5 +17,5 @@ runs-few from place (b ∷ bs) =
     (λ _. omega (arith, length-append (run from place) (runs_from (suc place) (suc place) bs), run_short from place, runs-few (suc place) (suc place) bs))
     (λ _. omega (arith, runs-few from (suc place) bs))
 
-pub left-few : (place : ℕ) (bytes : List ℕ) → length bytes ≤ most_bytes → length (runs_from place place (drop place bytes)) ≤ suc most_bytes
+pub left-few : (place : ℕ) (bytes : List ℕ) → length bytes ≤ most_bytes → length (runs_left bytes place) ≤ suc most_bytes
 left-few place bytes few = omega (arith, runs-few place place (drop place bytes), length-drop place bytes)

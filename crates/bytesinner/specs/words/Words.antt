@@ -1,5 +1,5 @@
 -- Words: the runs of a text between whitespace, and the lists that a bound makes of them. Assumes nothing.
-use Rattle.std.specs.Prelude.{◌≡◌, ℕ, suc, ◌-◌, ◌<◌, ◌≤◌, min, Bool, true, false, cond, List, [], ◌∷◌, ◌++◌, length, take, drop, ℤ, pos, negsuc, nat_lt, slice_index}
+use Rattle.std.specs.Prelude.{◌≡◌, ℕ, suc, ◌-◌, ◌<◌, ◌≤◌, min, Bool, true, false, cond, List, [], ◌∷◌, ◌++◌, length, take, drop, ℤ, pos, negsuc, Some, None, Option, nat_lt, slice_index}
 use Rattle.std.specs.List.{prefix_len}
 use Rattle.std.specs.Bool.{beq}
 use Rattle.searchers.specs.Marks.{Span}
@@ -30,6 +30,19 @@ runs_from from place (b ∷ bs) = cond (space b) (run from place ++ runs_from (s
 -- the runs of a text
 abbrev pub runs : List ℕ → List Span
 runs bytes = runs_from 0 0 bytes
+
+-- the runs from a place on
+abbrev pub runs_left : List ℕ → ℕ → List Span
+runs_left bytes place = runs_from place place (drop place bytes)
+
+-- the first of these runs, and the place after it; where there is none the place stays
+abbrev pub first_run : ℕ → List Span → Option Span × ℕ
+first_run place [] = (None, place)
+first_run place (r ∷ rs) = (Some r, r.1)
+
+-- the next run from a place on, and the place after it
+abbrev pub next_run : List ℕ → ℕ → Option Span × ℕ
+next_run bytes place = first_run place (runs_left bytes place)
 
 -- how many of the runs stay by themselves: as many as the bound, and all where they are not more; a negative bound is none
 abbrev pub alone : ℕ → ℤ → ℕ

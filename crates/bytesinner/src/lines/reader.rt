@@ -1,14 +1,10 @@
 // The pieces of a text without an empty last one, one after another.
-ghost use Rattle.std.specs.Prelude.{◌≡◌, suc, length, refl};
-ghost use Rattle.std.specs.Iterator.{YieldsFirstBy, item_count};
-ghost use Rattle.std.specs.List.{concat};
-ghost use Rattle.anystr.specs.Limits.{most_bytes};
-ghost use Rattle.cuts.specs.Cuts.{pieces_left};
-ghost use Rattle.cuts.proofs.Sizes.{pieces-few};
-ghost use Rattle.cutters.specs.Calls.{opening, state, span};
-ghost use Rattle.bytesinner.specs.lines.Lines.{lines_at};
-ghost use Rattle.bytesinner.specs.lines.Left.{left};
-ghost use Rattle.bytesinner.specs.lines.Few.{lines-few};
+ghost use Rattle.std.specs.Prelude.{◌≡◌, refl};
+ghost use Rattle.std.specs.Iterator.{item_count};
+ghost use Rattle.cuts.specs.Cuts.{at_opening};
+ghost use Rattle.bytesinner.specs.lines.Reader.{state, left, IsOn, LineStep};
+ghost use Rattle.bytesinner.specs.lines.Few.{left-few};
+ghost use Rattle.bytesinner.specs.lines.Yields.{next-yields};
 
 use anystr::anystr::AnyStr;
 use cutters::bound::UNBOUNDED;
@@ -17,7 +13,7 @@ use cutters::piece::Piece;
 use cutters::pieces::source::Pieces;
 use searchers::searcher::Searcher;
 
-// The lines that a cutter has left, at whatever marks end them.
+/// The lines that a cutter has left, at whatever marks end them.
 #[derive(Drop)]
 #[derive_where(Clone, Copy; F: Copy)]
 pub struct Lines<S: AnyStr, F: Searcher<S>> {
@@ -26,9 +22,10 @@ pub struct Lines<S: AnyStr, F: Searcher<S>> {
 }
 
 impl<S: AnyStr, F: Searcher<S>> Lines<S, F> {
-    // All the lines of a text.
+    /// All the lines of a text.
     pub fn new(text: S, ends: F, keepends: bool) -> Lines<S, F>
-        ensures { left F.Searcher.marks S.AnyStr.elements result ≡ lines_at (F.Searcher.marks ends (S.AnyStr.elements text)) (length (concat (S.AnyStr.elements text))) keepends }
+        ensures on { IsOn text ends keepends result }
+        ensures state { state result ≡ at_opening }
     {
         Lines {
             cutter: Cutter::open(text, ends, UNBOUNDED),
@@ -40,9 +37,10 @@ impl<S: AnyStr, F: Searcher<S>> Lines<S, F> {
 impl<S: AnyStr, F: Searcher<S> + Drop> Iterator for Lines<S, F> {
     type Item = Piece;
 
-    ghost next_gives = { YieldsFirstBy span (left F.Searcher.marks S.AnyStr.elements) };
+    // the next line, and the state of the cutter after it
+    ghost next_gives = { LineStep };
 
-    ghost remaining = { item_count (left F.Searcher.marks S.AnyStr.elements) };
+    ghost remaining = { item_count left };
 
     // With its end a line goes on to where the cutter stands after it.
     fn next(&mut self) -> Option<Piece> {
@@ -64,13 +62,11 @@ impl<S: AnyStr, F: Searcher<S> + Drop> Iterator for Lines<S, F> {
 }
 
 impl<S: AnyStr, F: Searcher<S> + Drop> Pieces for Lines<S, F> {
-    ghost left = { left F.Searcher.marks S.AnyStr.elements };
-
-    ghost few = { λ s. lines-few s.keepends (length (concat (S.AnyStr.elements s.cutter.text))) (suc most_bytes) (pieces_left (opening F.Searcher.marks S.AnyStr.elements s.cutter) (state s.cutter)) (pieces-few (opening F.Searcher.marks S.AnyStr.elements s.cutter) (F.Searcher.lawful s.cutter.searcher (S.AnyStr.elements s.cutter.text)) (S.AnyStr.few s.cutter.text) (state s.cutter)) };
+    ghost left = { left };
 
     ghost asked = { λ _. tt };
 
-    ghost gives = { λ _ _ _ h. h };
+    ghost gives = { λ l r m h. next-yields l m r (F.Searcher.lawful l.cutter.searcher l.cutter.text) h };
 
-    ghost counts = { λ _. refl };
+    ghost counts = { λ l. record { all = refl; few = left-few l (F.Searcher.lawful l.cutter.searcher l.cutter.text) (S.AnyStr.few l.cutter.text) } };
 }

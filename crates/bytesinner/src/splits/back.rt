@@ -1,5 +1,6 @@
 // The cutter from the end: a text with its place, and a searcher that looks from the end.
-ghost use Rattle.std.specs.Prelude.{◌≡◌, ◌+◌, ◌≤◌, ⊤};
+ghost use Rattle.std.specs.Prelude.{◌≡◌, ◌+◌, ◌≤◌, IsTrue, ⊤};
+ghost use Rattle.anystr.specs.Elements.{on_boundary};
 ghost use Rattle.anystr.specs.Limits.{most_bytes};
 
 use anystr::anystr::AnyStr;
@@ -9,15 +10,18 @@ use std::alloc::AllocError;
 
 pub mod calls;
 
-// A text that is cut at the marks of a searcher from the end, while fewer cuts are made than the bound.
-// The rest is the text before the place; a spent cutter has given its last piece. A type beside `Cutter`, with its
-// progress: it asks another sort of searcher by another method, and each piece lies before the place.
+/// A text that is cut at the marks of a searcher from the end, while fewer cuts are made than the bound.
+/// Its place, down to which it has cut, is a boundary of the text, and the rest is the text before it. A spent cutter
+/// has given its last piece, and its place is 0.
+// A type beside `Cutter`, with its progress: it asks another sort of searcher by another method, and each piece lies
+// before the place.
 #[derive(Drop)]
 pub struct BackCutter<S: AnyStr, F: ReverseSearcher<S>> {
     text: S,
     searcher: F,
     bound: i64,
     progress: Progress,
+    ghost placed: { IsTrue (on_boundary (S.elements text) progress.place) },
     ghost few: { progress.made + progress.place ≤ most_bytes },
 }
 

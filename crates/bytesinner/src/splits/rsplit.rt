@@ -1,7 +1,8 @@
 // Splitting a text at a separator from the end.
 ghost use Rattle.std.specs.List.{concat};
 ghost use Rattle.anystr.specs.Places.{Lists};
-ghost use Rattle.bytesinner.specs.splits.Separated.{rsplit_of, OfWritten, SplitBack, Restore, Cuttable};
+ghost use Rattle.bytesinner.specs.splits.Separated.{rsplit_of, SplitBack, Restore};
+ghost use Rattle.bytesinner.specs.Written.{OfWritten, Cuttable};
 
 use super::back::BackCutter;
 use anystr::anystr::AnyStr;

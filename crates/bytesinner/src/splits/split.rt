@@ -1,7 +1,8 @@
 // Splitting a text at a separator from the front.
 ghost use Rattle.std.specs.List.{concat};
 ghost use Rattle.anystr.specs.Places.{Lists};
-ghost use Rattle.bytesinner.specs.splits.Separated.{split_of, OfWritten, SplitFront, Restore, Cuttable};
+ghost use Rattle.bytesinner.specs.splits.Separated.{split_of, SplitFront, Restore};
+ghost use Rattle.bytesinner.specs.Written.{OfWritten, Cuttable};
 
 use anystr::anystr::AnyStr;
 use anystr::place::Place;

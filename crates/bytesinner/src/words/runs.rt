@@ -1,17 +1,16 @@
 // The runs of a text between whitespace, one after another.
 ghost use Rattle.std.specs.Prelude.{◌≡◌, ◌≤◌, length, refl};
-ghost use Rattle.std.specs.Iterator.{YieldsFirstBy, item_count};
-ghost use Rattle.std.specs.List.{concat};
-ghost use Rattle.cutters.specs.Calls.{span};
-ghost use Rattle.bytesinner.specs.words.Words.{space, stretch_len as stretch_of, runs};
+ghost use Rattle.std.specs.Iterator.{item_count};
+ghost use Rattle.bytesinner.specs.words.Words.{space, stretch_len as stretch_of};
+ghost use Rattle.bytesinner.specs.words.Runs.{bytes, left, IsOn, RunStep};
 ghost use Rattle.bytesinner.specs.words.Few.{left-few};
-ghost use Rattle.bytesinner.specs.words.Left.{left};
+ghost use Rattle.bytesinner.specs.words.Yields.{next-yields};
 
 use anystr::anystr::AnyStr;
 use cutters::piece::Piece;
 use cutters::pieces::source::Pieces;
 
-// The runs of a text from a place on.
+/// The runs of a text from a place on.
 #[derive(Clone, Copy)]
 pub struct Runs<S: AnyStr> {
     text: S,
@@ -37,9 +36,9 @@ fn stretch_len(bytes: &[u8], spaces: bool) -> usize
 }
 
 impl<S: AnyStr> Runs<S> {
-    // All the runs of a text.
+    /// All the runs of a text.
     pub fn new(text: S) -> Runs<S>
-        ensures { left S.AnyStr.elements result ≡ runs (concat (S.AnyStr.elements text)) }
+        ensures { IsOn S.AnyStr text 0 result }
     {
         Runs { text, place: 0 }
     }
@@ -48,9 +47,10 @@ impl<S: AnyStr> Runs<S> {
 impl<S: AnyStr> Iterator for Runs<S> {
     type Item = Piece;
 
-    ghost next_gives = { YieldsFirstBy span (left S.AnyStr.elements) };
+    // the next run, and the place after it
+    ghost next_gives = { RunStep S.AnyStr };
 
-    ghost remaining = { item_count (left S.AnyStr.elements) };
+    ghost remaining = { item_count (left S.AnyStr) };
 
     fn next(&mut self) -> Option<Piece> {
         let rest = self.text.as_bytes().get(self.place..)?;
@@ -67,13 +67,11 @@ impl<S: AnyStr> Iterator for Runs<S> {
 }
 
 impl<S: AnyStr> Pieces for Runs<S> {
-    ghost left = { left S.AnyStr.elements };
-
-    ghost few = { λ s. left-few s.place (concat (S.AnyStr.elements s.text)) (S.AnyStr.few s.text) };
+    ghost left = { left S.AnyStr };
 
     ghost asked = { λ _. tt };
 
-    ghost gives = { λ _ _ _ h. h };
+    ghost gives = { next-yields S.AnyStr };
 
-    ghost counts = { λ _. refl };
+    ghost counts = { λ s. record { all = refl; few = left-few s.place (bytes S.AnyStr s) (S.AnyStr.few s.text) } };
 }

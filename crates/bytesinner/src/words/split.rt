@@ -3,6 +3,8 @@ ghost use Rattle.std.specs.Prelude.{◌≡◌, ◌+◌, suc, min, ◌≤◌, len
 ghost use Rattle.std.specs.List.{concat};
 ghost use Rattle.anystr.specs.Limits.{most_bytes};
 ghost use Rattle.anystr.specs.Places.{Lists};
+ghost use Rattle.searchers.specs.Ascii.{AsciiApart};
+ghost use Rattle.bytesinner.specs.Written.{OfWritten, Cuttable};
 ghost use Rattle.bytesinner.specs.words.Words.{runs, alone as alone_of, words_of, rwords_of, AllRuns};
 
 use super::runs::Runs;
@@ -41,8 +43,9 @@ impl Shares {
     }
 }
 
-// The words of a text, as places: its runs without whitespace. Where there are more than a `maxsplit` of 0 or above,
-// the place after the first `maxsplit` goes on to the end of the text. Refused where the list has too few entries.
+/// The words of a text, as places in bytes: its runs without whitespace. Where there are more than a `maxsplit` of 0 or
+/// above, the place after the first `maxsplit` goes on to the end of the text. Each place can be cut out of a text in
+/// which bytes below 128 stand apart. Refused where the list has too few entries.
 pub fn split_whitespace<S: AnyStr>(
     text: &S,
     maxsplit: i64,
@@ -50,6 +53,8 @@ pub fn split_whitespace<S: AnyStr>(
 ) -> Result<usize, Refusal>
     ensures value { Lists (Ok (words_of (runs (concat (S.AnyStr.elements text.now))) (length (concat (S.AnyStr.elements text.now))) maxsplit)) places.old places.new result }
     ensures law { AllRuns (concat (S.AnyStr.elements text.now)) (runs (concat (S.AnyStr.elements text.now))) }
+    ensures cut { AsciiApart (S.AnyStr.elements text.now)
+        → OfWritten (Cuttable (S.AnyStr.elements text.now)) places.new result }
 {
     let shares = Shares::new(text, maxsplit);
     let n = room(shares.places(), places)?;
@@ -60,8 +65,9 @@ pub fn split_whitespace<S: AnyStr>(
     Ok(n)
 }
 
-// The same from the end, which skips runs and widens the first place: where there are more runs than a `maxsplit` of 0 or above, the place before the last
-// `maxsplit` begins at the start of the text. Refused where the list has too few entries.
+/// The same from the end, which skips runs and widens the first place: where there are more runs than a `maxsplit` of 0
+/// or above, the place before the last `maxsplit` begins at the start of the text. Refused where the list has too few
+/// entries.
 pub fn rsplit_whitespace<S: AnyStr>(
     text: &S,
     maxsplit: i64,
@@ -69,6 +75,8 @@ pub fn rsplit_whitespace<S: AnyStr>(
 ) -> Result<usize, Refusal>
     ensures value { Lists (Ok (rwords_of (runs (concat (S.AnyStr.elements text.now))) maxsplit)) places.old places.new result }
     ensures law { AllRuns (concat (S.AnyStr.elements text.now)) (runs (concat (S.AnyStr.elements text.now))) }
+    ensures cut { AsciiApart (S.AnyStr.elements text.now)
+        → OfWritten (Cuttable (S.AnyStr.elements text.now)) places.new result }
 {
     let shares = Shares::new(text, maxsplit);
     let n = room(shares.places(), places)?;

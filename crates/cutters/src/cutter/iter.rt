@@ -41,12 +41,14 @@ impl<S: AnyStr, F: Searcher<S>> PiecesLeft<S, F> {
 }
 
 impl<S: AnyStr, F: Searcher<S> + Drop> Iterator for PiecesLeft<S, F> {
+    ghost use Rattle.cutters.specs.pieces.Lefts.{cutter_of};
+
     type Item = Piece;
 
     // a next of the cutter
-    ghost next_gives = { λ s r t. NextStep s.cutter r t.cutter };
+    ghost next_gives = { λ s r t. NextStep (cutter_of s) r (cutter_of t) };
 
-    ghost remaining = { item_count (λ s. left_pieces s.cutter) };
+    ghost remaining = { item_count (λ s. left_pieces (cutter_of s)) };
 
     fn next(&mut self) -> Option<Piece> {
         self.cutter.next()

@@ -6,6 +6,7 @@ ghost use Rattle.searchers.specs.Marks.{Span};
 ghost use Rattle.cuts.proofs.Sizes.{pieces-few};
 ghost use Rattle.cutters.specs.declared.piece.Piece.{Piece};
 ghost use Rattle.cutters.specs.Calls.{opening, state, span, left_pieces};
+ghost use Rattle.cutters.specs.pieces.Lefts.{cutter_of};
 ghost use Rattle.cutters.specs.pieces.Skipped.{left_after, skip_counts, skip_gives};
 ghost use Rattle.cutters.specs.pieces.Sources.{CountsDown};
 ghost use Rattle.cutters.specs.pieces.Yields.{next-yields};
@@ -33,11 +34,11 @@ pub trait Pieces: Iterator<Item = Piece> {
 }
 
 impl<S: AnyStr, F: Searcher<S> + Drop> Pieces for PiecesLeft<S, F> {
-    ghost left = { λ s. left_pieces s.cutter };
+    ghost left = { λ s. left_pieces (cutter_of s) };
 
     ghost asked = { λ _. tt };
 
-    ghost gives = { λ s r t h. next-yields s.cutter t.cutter r (F.Searcher.lawful s.cutter.searcher s.cutter.text) h };
+    ghost gives = { λ s r t h. next-yields (cutter_of s) (cutter_of t) r (F.Searcher.lawful s.cutter.searcher s.cutter.text) h };
 
     ghost counts = { λ s. record { all = refl; few = pieces-few (opening s.cutter) (F.Searcher.lawful s.cutter.searcher s.cutter.text) (S.AnyStr.few s.cutter.text) (state s.cutter) } };
 }

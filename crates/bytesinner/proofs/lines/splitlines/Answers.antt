@@ -1,11 +1,22 @@
 use Rattle.std.proofs.Common.{Ok, subst}
 use Rattle.std.specs.List.{concat}
 use Rattle.anystr.specs.Places.{Lists}
+use Rattle.bytesinner.specs.Written.{Cuttable}
+use Rattle.bytesinner.specs.lines.Lines.{lines_of}
+use Rattle.bytesinner.proofs.Written.{written}
+use Rattle.bytesinner.proofs.lines.Opened.{opened-left}
 use Rattle.bytesinner.proofs.lines.Read.{lines-law}
+use Rattle.bytesinner.proofs.lines.OnText.{lines-cut}
 use Rattle.bytesinner.proofs.lines.splitlines.Goals as goal
 
-pub returns-clause-law : goal.returns-clause-law
-returns-clause-law g c = lines-law (concat (g.S.AnyStr.elements c.args.text.now))
-
-pub returns-clause-value : goal.returns-clause-value
-returns-clause-value g c = subst (λ ls. Lists (Ok ls) c.args.places.now c.list.new.places c.list.result) c.new.ensures c.list.ensures
+pub returns : goal.returns
+returns g c =
+    let es = g.S.AnyStr.elements c.args.text.now in
+    let ends = c.args.args.keepends in
+    let old = c.args.places.now in
+    let new = c.list.new.places in
+    let n = c.list.result in
+    let list : Lists (Ok (lines_of (concat es) ends)) old new n =
+    subst (λ ls. Lists (Ok ls) old new n) (opened-left c.new.result c.new.ensures.on c.new.ensures.state) c.list.ensures in
+    let cut = written (Cuttable es) _ (lines-cut es c.ascii_apart.ensures ends) old new n list in
+    record { value = list; law = lines-law (concat es); cut = cut }

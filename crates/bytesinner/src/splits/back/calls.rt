@@ -1,11 +1,11 @@
 // The calls on a cutter from the end.
-ghost use Rattle.std.specs.Prelude.{◌≡◌, length, refl};
-ghost use Rattle.std.specs.Iterator.{YieldsFirstBy, item_count};
-ghost use Rattle.std.specs.List.{concat};
+ghost use Rattle.std.specs.Prelude.{◌≡◌, refl};
+ghost use Rattle.std.specs.Iterator.{item_count};
+ghost use Rattle.searchers.specs.Marks.{OnBoundaries};
 ghost use Rattle.cuts.specs.Cuts.{at_opening};
 ghost use Rattle.cuts.proofs.Back.{back_few};
-ghost use Rattle.cutters.specs.Calls.{span};
-ghost use Rattle.bytesinner.specs.splits.Back.{opening, state, left, CutsBack};
+ghost use Rattle.bytesinner.specs.splits.Back.{opening, state, left, IsOn, BackStep, CutsNext};
+ghost use Rattle.bytesinner.specs.splits.Yields.{next-yields};
 
 use super::BackCutter;
 use anystr::anystr::AnyStr;
@@ -17,11 +17,11 @@ use searchers::mark::Mark;
 use searchers::searcher::{ReverseSearcher, Searcher};
 
 impl<S: AnyStr, F: ReverseSearcher<S>> BackCutter<S, F> {
-    // A cutter from the end on the whole text. A negative bound is no bound.
+    /// A cutter from the end on the whole text, with no cut made. `bound` is the most cuts that it makes; a negative one
+    /// is no bound.
     pub fn open(text: S, searcher: F, bound: i64) -> BackCutter<S, F>
-        ensures on { (result.text ≡ text) × (result.searcher ≡ searcher) × (result.bound ≡ bound) }
-        ensures place { result.progress.place ≡ length (concat (S.AnyStr.elements text)) }
-        ensures state { state S.AnyStr.elements result ≡ at_opening }
+        ensures on { IsOn text searcher bound result }
+        ensures state { state result ≡ at_opening }
     {
         let place = text.bytes_len();
         BackCutter {
@@ -32,32 +32,33 @@ impl<S: AnyStr, F: ReverseSearcher<S>> BackCutter<S, F> {
         }
     }
 
-    // The mark that is cut next before an offset, if one is.
-    fn next_mark(&self, before: usize) -> Option<Mark>
-        ensures { CutsBack (opening F.Searcher.marks S.AnyStr.elements self.now) self.now.progress.made before result }
+    // The mark that is cut next, if one is.
+    fn next_mark(&self) -> Option<Mark>
+        ensures value { CutsNext self.now result }
+        ensures cut { OnBoundaries (S.elements self.now.text) result }
     {
         if !fewer(self.progress.made, self.bound) {
             return None;
         }
         let text = self.text;
-        self.searcher.rfind(&text, before)
+        self.searcher.rfind(&text, self.progress.place)
     }
 }
 
 impl<S: AnyStr, F: ReverseSearcher<S> + Drop> Iterator for BackCutter<S, F> {
     type Item = Piece;
 
-    ghost next_gives = { YieldsFirstBy span (left F.Searcher.marks S.AnyStr.elements) };
+    // what comes next from the end, and the state after it
+    ghost next_gives = { BackStep };
 
-    ghost remaining = { item_count (left F.Searcher.marks S.AnyStr.elements) };
+    ghost remaining = { item_count left };
 
     fn next(&mut self) -> Option<Piece> {
         if self.progress.spent {
             return None;
         }
-        // The fields alone do not show that the place lies within the text.
-        let end = self.progress.place.min(self.text.bytes_len());
-        let Some(mark) = self.next_mark(end) else {
+        let end = self.progress.place;
+        let Some(mark) = self.next_mark() else {
             self.progress.place = 0;
             self.progress.spent = true;
             return Some(Piece { start: 0, end });
@@ -72,13 +73,11 @@ impl<S: AnyStr, F: ReverseSearcher<S> + Drop> Iterator for BackCutter<S, F> {
 }
 
 impl<S: AnyStr, F: ReverseSearcher<S> + Drop> Pieces for BackCutter<S, F> {
-    ghost left = { left F.Searcher.marks S.AnyStr.elements };
-
-    ghost few = { λ c. back_few (opening F.Searcher.marks S.AnyStr.elements c) (F.Searcher.lawful c.searcher (S.AnyStr.elements c.text)) (S.AnyStr.few c.text) (state S.AnyStr.elements c) };
+    ghost left = { left };
 
     ghost asked = { λ _. tt };
 
-    ghost gives = { λ _ _ _ h. h };
+    ghost gives = { λ c r d h. next-yields c d r (F.Searcher.lawful c.searcher c.text) h };
 
-    ghost counts = { λ _. refl };
+    ghost counts = { λ c. record { all = refl; few = back_few (opening c) (F.Searcher.lawful c.searcher c.text) (S.AnyStr.few c.text) (state c) } };
 }

@@ -15,8 +15,9 @@ returns-in_err-n g c =
     let list = c.args.places.now in
     let list' = c.list.new.places in
     let e = c.in_err-n.field-0.0 in
-    let b = c.open.ensures in
-    let is = opened-left g.S.AnyStr.elements c.open.result c.args.text.now c.args.sep.now c.new.result c.args.maxsplit b.on.0 b.on.1 (b.on.2 ∙ to_z-of_z w64 c.args.maxsplit c.ranges.maxsplit) b.state c.new.ensures in
+    let o = c.open.ensures in
+    let is = opened-left c.open.result o.on o.state
+    ∙ (λ i. from_back (concat (g.S.AnyStr.elements c.args.text.now)) (concat (g.S.AnyStr.elements (c.new.ensures i))) (to_z-of_z w64 c.args.maxsplit c.ranges.maxsplit i)) in
     let there : Lists (Ok qs) list list' (Err e) = subst (λ (ps : List Span). Lists (Ok ps) list list' (Err e)) is c.in_err-n.ensures in
     let here = accepted sep (reverse qs) list list' (Err e) c.in_ok-check.ensures (turned-refused qs list list' e there) in
     let p = err_from_is_err_and c.from_residual-in_err-n.result c.from_residual-in_err-n.ensures.1 in
@@ -30,10 +31,11 @@ returns g c =
     let list = c.args.places.now in
     let list' = c.list.new.places in
     let n = c.in_ok-n.n in
-    let b = c.open.ensures in
+    let o = c.open.ensures in
     let front = c.reverse.new.self in
     let list'' = front ++ drop n list' in
-    let is = opened-left g.S.AnyStr.elements c.open.result c.args.text.now c.args.sep.now c.new.result c.args.maxsplit b.on.0 b.on.1 (b.on.2 ∙ to_z-of_z w64 c.args.maxsplit c.ranges.maxsplit) b.state c.new.ensures in
+    let is = opened-left c.open.result o.on o.state
+    ∙ (λ i. from_back (concat es) (concat (g.S.AnyStr.elements (c.new.ensures i))) (to_z-of_z w64 c.args.maxsplit c.ranges.maxsplit i)) in
     let there : Lists (Ok qs) list list' (Ok n) = subst (λ (ps : List Span). Lists (Ok ps) list list' (Ok n)) is c.in_ok-n.ensures in
     let here = accepted sep (reverse qs) list list'' (Ok n) c.in_ok-check.ensures (turned-listed qs list list' front n there c.reverse.ensures.after) in
     let k = rsplit-kept es sep (g.S.AnyStr.whole c.args.text.now c.args.sep.now) c.args.maxsplit list list'' (Ok n) here in

@@ -1,47 +1,46 @@
-use Rattle.std.proofs.Common.{◌≡◌, ◌-◌, drop, ap, ◌∙◌, length, arith, rules}
-use Rattle.std.specs.List.{concat}
-use Rattle.bytesinner.specs.words.Words.{runs, rwords_of}
-use Rattle.bytesinner.specs.words.Left.{left}
-use Rattle.bytesinner.proofs.words.Longest.{all_runs}
-use Rattle.bytesinner.proofs.words.Bounded.{Wanted, wanted, Given, filled-front, rwords_length, rwords_put, rwords_put_cut}
+use Rattle.std.proofs.Common.{◌≡◌, ℕ, List, drop, Ok, ap, ◌∙◌, rules}
+use Rattle.std.specs.Iterator.Adapters.{skip_source, skip_count}
+use Rattle.std.specs.declared.iter.Skip.{Skip}
+use Rattle.searchers.specs.Marks.{Span}
+use Rattle.cutters.specs.pieces.Skipped.{left_after}
+use Rattle.anystr.specs.declared.anystr.AnyStr
+use Rattle.bytesinner.specs.words.Runs.{left}
+use Rattle.bytesinner.proofs.words.Opened.{opened-left}
+use Rattle.bytesinner.specs.declared.words.runs.Runs.{Runs}
+use Rattle.bytesinner.proofs.words.Bounded.{wanted, given, filled-front, rwords_length, rwords_put, rwords_put_cut}
+use Rattle.bytesinner.proofs.words.OnText.{rwords-cut, told}
 use Rattle.bytesinner.proofs.words.split.rsplit_whitespace.Goals as goal
+
+-- what is left of the runs behind those that are passed over
+skipped : {S C : Type 0} (s : AnyStr.Ghosts S C) (last : Skip (Runs S C)) {all : Runs S C} {n : ℕ} {rs : List Span}
+    → skip_source last ≡ all → skip_count last ≡ n → left s all ≡ rs → left_after (left s) last ≡ drop n rs
+skipped s last {n = n} from over are = (λ i. drop (over i) (left s (from i))) ∙ ap (drop n) are
 
 pub returns-in_err-n : goal.returns-in_err-n
 returns-in_err-n g c =
-    let bytes = concat (g.S.AnyStr.elements c.args.text.now) in
-    let total = c.new-shares.result.total in
-    let alone = c.new-shares.result.alone in
-    let m = c.places.result in
-    let w : Wanted (runs bytes) c.args.maxsplit total alone m = wanted c.new-shares.ensures.total c.ranges.maxsplit c.new-shares.ensures.alone c.places.ensures in
-    let l : length (rwords_of (runs bytes) c.args.maxsplit) ≡ m = rwords_length (runs bytes) c.args.maxsplit total alone m w in
-    record { value = search rules; law = all_runs bytes }
+    let es = g.S.AnyStr.elements c.args.text.now in
+    let w = wanted c.new-shares.ensures.total c.ranges.maxsplit c.new-shares.ensures.alone c.places.ensures in
+    let l = rwords_length w in
+    told es _ (rwords-cut es c.args.maxsplit) c.args.places.now _ _ (search rules)
 
 pub returns-then-shares : goal.returns-then-shares
 returns-then-shares g c =
-    let bytes = concat (g.S.AnyStr.elements c.args.text.now) in
-    let total = c.new-shares.result.total in
-    let alone = c.new-shares.result.alone in
-    let m = c.places.result in
-    let w : Wanted (runs bytes) c.args.maxsplit total alone m = wanted c.new-shares.ensures.total c.ranges.maxsplit c.new-shares.ensures.alone c.places.ensures in
-    let list = c.args.places.now in
-    let n = c.in_ok-n.n in
-    let room = c.in_ok-n.ensures in
-    let given : Given m (length list) n = record { is = grind arith; fits = grind arith } in
-    let left = (λ i. drop (c.skip-last.ensures.count i) (left g.S.AnyStr.elements (c.skip-last.ensures.source i))) ∙ ap (drop (total - n)) c.new.ensures in
-    let filled = filled-front _ _ n list c.fill.new.places left (omega (arith, given.is, given.fits)) c.fill.auto.places c.fill.ensures in
-    record { value = rwords_put_cut (runs bytes) c.args.maxsplit total alone m w list _ n given filled c.if-shares.true; law = all_runs bytes }
+    let es = g.S.AnyStr.elements c.args.text.now in
+    let w = wanted c.new-shares.ensures.total c.ranges.maxsplit c.new-shares.ensures.alone c.places.ensures in
+    let skip = c.skip-last.ensures in
+    let last = skipped g.S.AnyStr c.skip-last.result skip.source skip.count (opened-left c.new.result c.new.ensures) in
+    let room = given c.args.places.now c.in_ok-n.ensures in
+    let filled = filled-front room last c.fill.auto.places c.fill.ensures.written in
+    told es _ (rwords-cut es c.args.maxsplit) c.args.places.now _ (Ok c.in_ok-n.n)
+    (rwords_put_cut w room c.if-shares.true filled)
 
 pub returns-else-shares : goal.returns-else-shares
 returns-else-shares g c =
-    let bytes = concat (g.S.AnyStr.elements c.args.text.now) in
-    let total = c.new-shares.result.total in
-    let alone = c.new-shares.result.alone in
-    let m = c.places.result in
-    let w : Wanted (runs bytes) c.args.maxsplit total alone m = wanted c.new-shares.ensures.total c.ranges.maxsplit c.new-shares.ensures.alone c.places.ensures in
-    let list = c.args.places.now in
-    let n = c.in_ok-n.n in
-    let room = c.in_ok-n.ensures in
-    let given : Given m (length list) n = record { is = grind arith; fits = grind arith } in
-    let left = (λ i. drop (c.skip-last.ensures.count i) (left g.S.AnyStr.elements (c.skip-last.ensures.source i))) ∙ ap (drop (total - n)) c.new.ensures in
-    let filled = filled-front _ _ n list c.fill.new.places left (omega (arith, given.is, given.fits)) c.fill.auto.places c.fill.ensures in
-    record { value = rwords_put (runs bytes) c.args.maxsplit total alone m w list _ n given filled c.if-shares.false; law = all_runs bytes }
+    let es = g.S.AnyStr.elements c.args.text.now in
+    let w = wanted c.new-shares.ensures.total c.ranges.maxsplit c.new-shares.ensures.alone c.places.ensures in
+    let skip = c.skip-last.ensures in
+    let last = skipped g.S.AnyStr c.skip-last.result skip.source skip.count (opened-left c.new.result c.new.ensures) in
+    let room = given c.args.places.now c.in_ok-n.ensures in
+    let filled = filled-front room last c.fill.auto.places c.fill.ensures.written in
+    told es _ (rwords-cut es c.args.maxsplit) c.args.places.now _ (Ok c.in_ok-n.n)
+    (rwords_put w room c.if-shares.false filled)

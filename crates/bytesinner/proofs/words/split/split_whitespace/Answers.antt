@@ -1,33 +1,31 @@
-use Rattle.std.proofs.Common.{◌≡◌, length, arith, rules}
+use Rattle.std.proofs.Common.{length, Ok, rules}
 use Rattle.std.specs.List.{concat}
-use Rattle.bytesinner.specs.words.Words.{runs, words_of}
-use Rattle.bytesinner.proofs.words.Longest.{all_runs}
-use Rattle.bytesinner.proofs.words.Bounded.{Wanted, wanted, Given, filled-front, words_length, words_put_cut}
+use Rattle.bytesinner.proofs.words.Bounded.{wanted, given, filled-front, words_length, words_put, words_put_cut}
+use Rattle.bytesinner.proofs.words.Opened.{opened-left}
+use Rattle.bytesinner.proofs.words.OnText.{words-cut, told}
 use Rattle.bytesinner.proofs.words.split.split_whitespace.Goals as goal
 
 pub returns-in_err-n : goal.returns-in_err-n
 returns-in_err-n g c =
-    let bytes = concat (g.S.AnyStr.elements c.args.text.now) in
-    let total = c.new-shares.result.total in
-    let alone = c.new-shares.result.alone in
-    let m = c.places.result in
-    let w : Wanted (runs bytes) c.args.maxsplit total alone m = wanted c.new-shares.ensures.total c.ranges.maxsplit c.new-shares.ensures.alone c.places.ensures in
-    let l : length (words_of (runs bytes) (length bytes) c.args.maxsplit) ≡ m = words_length (runs bytes) c.args.maxsplit total alone m w (length bytes) in
-    record { value = search rules; law = all_runs bytes }
+    let es = g.S.AnyStr.elements c.args.text.now in
+    let w = wanted c.new-shares.ensures.total c.ranges.maxsplit c.new-shares.ensures.alone c.places.ensures in
+    let l = words_length w (length (concat es)) in
+    told es _ (words-cut es c.args.maxsplit) c.args.places.now _ _ (search rules)
 
 pub returns-then-shares : goal.returns-then-shares
 returns-then-shares g c =
-    let bytes = concat (g.S.AnyStr.elements c.args.text.now) in
-    let total = c.new-shares.result.total in
-    let alone = c.new-shares.result.alone in
-    let m = c.places.result in
-    let w : Wanted (runs bytes) c.args.maxsplit total alone m = wanted c.new-shares.ensures.total c.ranges.maxsplit c.new-shares.ensures.alone c.places.ensures in
-    let list = c.args.places.now in
-    let n = c.in_ok-n.n in
-    let room = c.in_ok-n.ensures in
-    let given : Given m (length list) n = record { is = grind arith; fits = grind arith } in
-    let filled = filled-front _ _ n list c.fill.new.places c.new.ensures (omega (arith, given.is, given.fits)) c.fill.auto.places c.fill.ensures in
-    record { value = words_put_cut (runs bytes) c.args.maxsplit total alone m w list _ n given (length bytes) filled c.if-shares.true c.bytes_len.result c.bytes_len.ensures; law = all_runs bytes }
+    let es = g.S.AnyStr.elements c.args.text.now in
+    let w = wanted c.new-shares.ensures.total c.ranges.maxsplit c.new-shares.ensures.alone c.places.ensures in
+    let room = given c.args.places.now c.in_ok-n.ensures in
+    let filled = filled-front room (opened-left c.new.result c.new.ensures) c.fill.auto.places c.fill.ensures.written in
+    told es _ (words-cut es c.args.maxsplit) c.args.places.now _ (Ok c.in_ok-n.n)
+    (words_put_cut w room c.if-shares.true _ _ c.bytes_len.ensures filled)
 
-pub returns-else-shares-clause-law : goal.returns-else-shares-clause-law
-returns-else-shares-clause-law g c = all_runs (concat (g.S.AnyStr.elements c.args.text.now))
+pub returns-else-shares : goal.returns-else-shares
+returns-else-shares g c =
+    let es = g.S.AnyStr.elements c.args.text.now in
+    let w = wanted c.new-shares.ensures.total c.ranges.maxsplit c.new-shares.ensures.alone c.places.ensures in
+    let room = given c.args.places.now c.in_ok-n.ensures in
+    let filled = filled-front room (opened-left c.new.result c.new.ensures) c.fill.auto.places c.fill.ensures.written in
+    told es _ (words-cut es c.args.maxsplit) c.args.places.now _ (Ok c.in_ok-n.n)
+    (words_put w room _ c.if-shares.false filled)

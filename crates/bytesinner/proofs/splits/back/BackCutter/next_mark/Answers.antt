@@ -1,23 +1,28 @@
-use Rattle.std.proofs.Common.{◌≡◌, ℕ, true, Option, Some, None, inl, inr, sym, ap, ◌∙◌, w64, SFits, rules}
+use Rattle.std.proofs.Common.{◌≡◌, true, Option, Some, None, inl, inr, sym, ap, ◌∙◌, w64, SFits, rules}
 use Rattle.std.proofs.lemmas.Int.{to_z-of_z}
+use Rattle.anystr.specs.declared.anystr.AnyStr
 use Rattle.searchers.specs.Marks.{FindsBack}
 use Rattle.searchers.specs.declared.mark.Mark.{Mark}
-use Rattle.cuts.specs.Cuts.{Opening, fewer}
-use Rattle.bytesinner.specs.splits.Back.{opening, CutsBack}
+use Rattle.searchers.specs.declared.searcher.Searcher
+use Rattle.cuts.specs.Cuts.{fewer}
+use Rattle.bytesinner.specs.splits.Back.{opening, CutsNext}
+use Rattle.bytesinner.specs.declared.splits.back.BackCutter.{BackCutter}
 use Rattle.bytesinner.proofs.splits.back.BackCutter.next_mark.Goals as goal
 
 pub returns-then-not-fewer : goal.returns-then-not-fewer
 returns-then-not-fewer g c =
     let k = c.args.self.now in
     let fits : SFits w64 k.bound = search rules in
-    inl (ap (fewer k.progress.made) (sym (to_z-of_z w64 k.bound fits)) ∙ sym c.if-not-fewer.ensures)
+    record { value = inl (ap (fewer k.progress.made) (sym (to_z-of_z w64 k.bound fits)) ∙ sym c.if-not-fewer.ensures); cut = tt }
 
-found : (on : Opening) (made before : ℕ) → fewer made on.bound ≡ true → (r : Option Mark) → FindsBack on.marks before r → CutsBack on made before r
-found on made before more None h = inr h
-found on made before more (Some m) h = (more, h)
+found : {S F C : Type 0} {s : AnyStr.Ghosts S C} {f : Searcher.Ghosts F S C} (c : BackCutter S F C s f) → fewer c.progress.made c.bound ≡ true
+    → (r : Option Mark) → FindsBack (opening c).marks c.progress.place r → CutsNext c r
+found c more None h = inr h
+found c more (Some m) h = (more, h)
 
 pub returns : goal.returns
 returns g c =
     let k = c.args.self.now in
     let fits : SFits w64 k.bound = search rules in
-    found (opening g.F.Searcher.marks g.S.AnyStr.elements k) k.progress.made c.args.before (ap (fewer k.progress.made) (sym (to_z-of_z w64 k.bound fits)) ∙ sym c.if-not-fewer.ensures) c.rfind.result c.rfind.ensures.value
+    let more = ap (fewer k.progress.made) (sym (to_z-of_z w64 k.bound fits)) ∙ sym c.if-not-fewer.ensures in
+    record { value = found k more c.rfind.result c.rfind.ensures.value; cut = c.rfind.ensures.cut }

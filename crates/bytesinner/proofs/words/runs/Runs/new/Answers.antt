@@ -2,4 +2,4 @@ use Rattle.std.proofs.Common.{refl}
 use Rattle.bytesinner.proofs.words.runs.Runs.new.Goals as goal
 
 pub returns : goal.returns
-returns g c = refl
+returns g c = record { text = refl; place = refl }

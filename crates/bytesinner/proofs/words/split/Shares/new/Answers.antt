@@ -1,6 +1,10 @@
-use Rattle.std.proofs.Common.{inl, arith}
+use Rattle.std.proofs.Common.{length, inl, ap, ◌∙◌, arith}
 use Rattle.std.specs.List.{concat}
+use Rattle.cutters.proofs.pieces.Counted.{counted}
 use Rattle.bytesinner.specs.words.Few.{left-few}
+use Rattle.bytesinner.specs.words.Runs.{left, RunStep}
+use Rattle.bytesinner.specs.words.Yields.{next-yields}
+use Rattle.bytesinner.proofs.words.Opened.{opened-left}
 use Rattle.bytesinner.proofs.words.split.Shares.new.Goals as goal
 
 pub count-total-requires-clause-fits : goal.count-total-requires-clause-fits
@@ -13,3 +17,9 @@ pub invariant_of-result-clause-few : goal.invariant_of-result-clause-few
 invariant_of-result-clause-few g c =
     let s = c.new.result in
     omega (arith, left-few s.place (concat (g.S.AnyStr.elements s.text)) (g.S.AnyStr.few s.text), c.count-total.ensures.bound)
+
+pub returns-clause-total : goal.returns-clause-total
+returns-clause-total g c =
+    let t = g.S.AnyStr in
+    let ran = c.count-total.ensures.ran in
+    ran.2 ∙ (counted (RunStep t) (left t) (next-yields t) c.new.result ran.0 ran.1 ∙ ap length (opened-left c.new.result c.new.ensures))

@@ -1,31 +1,66 @@
-use Rattle.std.proofs.Common.{◌≡◌, suc, ◌+◌, ◌-◌, min, ◌∷◌, Some, sym, ap, ◌∙◌, add-one, ⊎_elim}
+use Rattle.std.proofs.Common.{◌≡◌, suc, ◌+◌, ◌-◌, ◌≤◌, Some, true, sym, refl, ◌∙◌, add-one, ⊎_elim, arith}
+use Rattle.anystr.proofs.Boundaries.{boundary_from, boundary_true, offset-within}
 use Rattle.searchers.specs.Truth.{truth}
 use Rattle.cuts.specs.Cuts.{size, at}
-use Rattle.cuts.specs.Splits.{left_back}
 use Rattle.cuts.proofs.Back.{back_used, back_none, back_cut}
 use Rattle.cutters.specs.Calls.{span}
 use Rattle.cutters.proofs.Yielding.{goes_on}
 use Rattle.bytesinner.specs.splits.Back.{opening, left}
+use Rattle.bytesinner.specs.splits.Yields.{next-yields}
 use Rattle.bytesinner.proofs.splits.back.calls.BackCutterIterator.next.Goals as goal
 
-pub returns-in_default : goal.returns-in_default
-returns-in_default g c =
-    let k = c.args.self.now in
-    let on = opening g.F.Searcher.marks g.S.AnyStr.elements k in
-    let law = g.F.Searcher.lawful k.searcher (g.S.AnyStr.elements k.text) in
-    let end : c.min-end.result ≡ min k.progress.place (size on) = c.min-end.ensures ∙ ap (min k.progress.place) c.bytes_len.ensures in
-    let gave = ⊎_elim (back_used on law k.progress.place k.progress.made k.progress.spent c.if-self.false c.min-end.result end)
-    (back_none on law k.progress.place k.progress.made k.progress.spent c.if-self.false c.min-end.result end) c.in_default.ensures in
-    record { steps = gave; goes = goes_on span (left g.F.Searcher.marks g.S.AnyStr.elements) k (Some (record { start = 0; end = c.min-end.result })) _ gave }
+pub invariant_of-self : goal.invariant_of-self
+invariant_of-self g c = record { placed = boundary_true (g.S.AnyStr.elements c.args.self.now.text) 0 (0, refl); few = omega arith }
 
-pub returns : goal.returns
-returns g c =
+pub invariant_of-self-2 : goal.invariant_of-self-2
+invariant_of-self-2 g c =
     let k = c.args.self.now in
-    let on = opening g.F.Searcher.marks g.S.AnyStr.elements k in
-    let law = g.F.Searcher.lawful k.searcher (g.S.AnyStr.elements k.text) in
     let mark = c.in-Some.mark in
-    let end : c.min-end.result ≡ min k.progress.place (size on) = c.min-end.ensures ∙ ap (min k.progress.place) c.bytes_len.ensures in
+    let found = c.in-Some.ensures.value.1 in
+    let long = (g.met.F.Searcher.lawful k.searcher k.text).nonempty mark.start mark.end found.is in
+    record { placed = boundary_true (g.S.AnyStr.elements k.text) mark.start c.in-Some.ensures.cut.0; few = omega (arith, found.ahead) }
+
+pub returns-in_default-clause-steps : goal.returns-in_default-clause-steps
+returns-in_default-clause-steps g c =
+    let k = c.args.self.now in
+    let es = g.S.AnyStr.elements k.text in
+    let on = opening k in
+    let law = g.met.F.Searcher.lawful k.searcher k.text in
+    let placed = boundary_from es k.progress.place k.placed in
+    let within : k.progress.place ≤ size on = omega (arith, offset-within es placed.0, placed.1) in
+    let all : size on - 0 ≡ size on = omega arith in
+    let last = ⊎_elim (back_used on law k.progress.place k.progress.made k.progress.spent c.if-self.false within)
+    (back_none on law k.progress.place k.progress.made k.progress.spent c.if-self.false within) c.in_default.ensures.value in
+    record {
+      step = (λ i. (Some (0, k.progress.place), at (all i) k.progress.made true)) ∙ sym last;
+      same = record { text = refl; searcher = refl; bound = refl };
+      cut = ((0, refl), placed);
+    }
+
+pub returns-in_default-clause-goes : goal.returns-in_default-clause-goes
+returns-in_default-clause-goes g c =
+    let k = c.args.self.now in
+    goes_on span left k _ _ (next-yields k _ _ (g.met.F.Searcher.lawful k.searcher k.text) (returns-in_default-clause-steps g c))
+
+pub returns-clause-steps : goal.returns-clause-steps
+returns-clause-steps g c =
+    let k = c.args.self.now in
+    let mark = c.in-Some.mark in
+    let es = g.S.AnyStr.elements k.text in
+    let on = opening k in
+    let law = g.met.F.Searcher.lawful k.searcher k.text in
+    let placed = boundary_from es k.progress.place k.placed in
+    let within : k.progress.place ≤ size on = omega (arith, offset-within es placed.0, placed.1) in
     let one : k.progress.made + 1 ≡ suc k.progress.made = add-one k.progress.made in
-    let gave = back_cut on law k.progress.place k.progress.made k.progress.spent c.if-self.false c.min-end.result end mark.start mark.end (truth _ c.in-Some.ensures.0) c.in-Some.ensures.1
-    ∙ (λ i. (mark.end, c.min-end.result) ∷ left_back on (at (size on - mark.start) (sym one i) (sym c.if-self.false i))) in
-    record { steps = gave; goes = goes_on span (left g.F.Searcher.marks g.S.AnyStr.elements) k (Some (record { start = mark.end; end = c.min-end.result })) _ gave }
+    let found = c.in-Some.ensures.value in
+    let cut = back_cut on law k.progress.place k.progress.made k.progress.spent c.if-self.false within mark.start mark.end (truth _ found.0) found.1 in
+    record {
+      step = (λ i. (Some (mark.end, k.progress.place), at (size on - mark.start) (one i) (c.if-self.false i))) ∙ sym cut;
+      same = record { text = refl; searcher = refl; bound = refl };
+      cut = (c.in-Some.ensures.cut.1, placed);
+    }
+
+pub returns-clause-goes : goal.returns-clause-goes
+returns-clause-goes g c =
+    let k = c.args.self.now in
+    goes_on span left k _ _ (next-yields k _ _ (g.met.F.Searcher.lawful k.searcher k.text) (returns-clause-steps g c))

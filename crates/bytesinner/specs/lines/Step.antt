@@ -1,13 +1,12 @@
--- One line more: what a cutter's next changes in the lines that are left.
-use Rattle.std.proofs.Common.{◌≡◌, ℕ, suc, ◌<◌, ◌≤◌, Bool, true, false, cond, ltb, List, [], ◌∷◌, Some, sym, refl, ap, ◌∙◌, subst, arith}
-use Rattle.std.proofs.lemmas.Bool.{lt-ltb, le-ltb, ltb-false, cond_both, cond-true, cond-false}
+-- The next line is the first of the lines that are left. Assumes nothing.
+use Rattle.std.specs.Iterator.{YieldsFirst}
+use Rattle.std.proofs.Common.{◌≡◌, ℕ, suc, ◌<◌, ◌≤◌, Bool, true, false, cond, ltb, List, [], ◌∷◌, Some, Option, sym, refl, ap, ◌∙◌, subst, arith}
+use Rattle.std.proofs.lemmas.Bool.{lt-ltb, le-ltb, ltb-true, ltb-false, cond_both, cond-true, cond-false}
 use Rattle.searchers.specs.Marks.{Span, Lawful}
 use Rattle.cuts.specs.Cuts.{Opening, size, State, at, cut_from, between, next_of, after_cut}
-use Rattle.cuts.specs.Runs.{Step, next}
 use Rattle.cuts.proofs.Found.{listed-past}
 use Rattle.cuts.proofs.Left.{first}
-use Rattle.cuts.proofs.Reach.{none-some}
-use Rattle.bytesinner.specs.lines.Lines.{filled, start_of, kept, lines_from, lines_left}
+use Rattle.bytesinner.specs.lines.Lines.{filled, start_of, kept, lines_from, lines_left, as_line, next_line}
 
 -- a piece before others is a line
 pub filled-cons : (p : Span) (q len : ℕ) (ms : List Span) → filled (p ∷ between q len ms) ≡ p ∷ filled (between q len ms)
@@ -37,21 +36,23 @@ no_lines false len = refl
 
 module _ (on : Opening) (law : Lawful on.marks (size on)) (keep : Bool) where
   -- past the end of the text no line is left
-  pub none_left : (place made : ℕ) (spent : Bool) → size on ≤ place → lines_left on keep (at place made spent) ≡ []
+  none_left : (place made : ℕ) (spent : Bool) → size on ≤ place → lines_left on keep (at place made spent) ≡ []
   none_left place made true past = no_lines keep (size on)
   none_left place made false past =
       let no_cut : cut_from on made place ≡ [] = listed-past on.marks on.bound made place 0 (size on) (omega arith) in
       ap (λ (ms : List Span). lines_from keep (size on) (between place (size on) ms)) no_cut ∙ ap (λ (ls : List Span). cond keep (kept (size on) ls) ls) (no_line place (size on) past) ∙ no_lines keep (size on)
 
-  -- a line: it begins at the place, and ends where its piece does or, with its end, at the place after it
-  abbrev Lined : ℕ → ℕ → Span → State → Type 0
-  Lined place made p t = lines_left on keep (at place made false) ≡ (p.0, cond keep t.place p.1) ∷ lines_left on keep t
+  -- an answer, and the state after it, give the first of the lines that are left
+  abbrev LineFirst : State → Option Span × State → Type 0
+  LineFirst s n = YieldsFirst (lines_left on keep) s n.0 n.1
 
-  lined_last : (place made : ℕ) → place < size on → cut_from on made place ≡ [] → Lined place made (place, size on) (at (size on) made true)
+  lined_last : (place made : ℕ) → place < size on → cut_from on made place ≡ []
+      → LineFirst (at place made false) (as_line keep (Some (place, size on), at (size on) made true))
   lined_last place made lt e =
       ap (λ (ms : List Span). lines_from keep (size on) (between place (size on) ms)) e ∙ ap (λ (ls : List Span). cond keep (kept (size on) ls) ls) (one_line place (size on) lt) ∙ lines_cons keep (size on) place (size on) (size on) [] refl
 
-  lined_cut : (place made : ℕ) (m : Span) (ms : List Span) → cut_from on made place ≡ m ∷ ms → Lined place made (place, m.0) (at m.1 (suc made) false)
+  lined_cut : (place made : ℕ) (m : Span) (ms : List Span) → cut_from on made place ≡ m ∷ ms
+      → LineFirst (at place made false) (as_line keep (Some (place, m.0), at m.1 (suc made) false))
   lined_cut place made m ms e =
       let f = first on law made place m ms e in
       let others : List Span = between m.1 (size on) ms in
@@ -60,25 +61,18 @@ module _ (on : Opening) (law : Lawful on.marks (size on)) (keep : Bool) where
       ∙ lines_cons keep (size on) place m.0 m.1 (filled others) (starts m.1 (size on) ms f.within)
       ∙ ap (λ (cs : List Span). (place, cond keep m.1 m.0) ∷ lines_from keep (size on) (between m.1 (size on) cs)) (sym f.others)
 
-  -- next on a cutter that is not spent gives a line
-  record Gave (place made : ℕ) : Type 0 where
-    p : Span
-    t : State
-    is : next_of on (at place made false) ≡ (Some p, t)
-    lined : Lined place made p t
-
-  gave : (place made : ℕ) → place < size on → Gave place made
-  gave place made lt = by (cut_from on made place) refl
+  -- a piece makes a line where the rest is not empty
+  lined : (place made : ℕ) (spent : Bool) → place < size on → LineFirst (at place made spent) (as_line keep (next_of on (at place made spent)))
+  lined place made true lt = (no_lines keep (size on), no_lines keep (size on))
+  lined place made false lt = by (cut_from on made place) refl
     where
-      by : (ms : List Span) → cut_from on made place ≡ ms → Gave place made
-      by [] e = record { p = (place, size on); t = at (size on) made true; is = ap (after_cut (size on) (at place made false)) e; lined = lined_last place made lt e }
-      by (m ∷ ms) e = record { p = (place, m.0); t = at m.1 (suc made) false; is = ap (after_cut (size on) (at place made false)) e; lined = lined_cut place made m ms e }
+      by : (ms : List Span) → cut_from on made place ≡ ms → LineFirst (at place made false) (as_line keep (next_of on (at place made false)))
+      by [] e = subst (λ (n : List Span). LineFirst (at place made false) (as_line keep (after_cut (size on) (at place made false) n))) (sym e) (lined_last place made lt e)
+      by (m ∷ ms) e = subst (λ (n : List Span). LineFirst (at place made false) (as_line keep (after_cut (size on) (at place made false) n))) (sym e) (lined_cut place made m ms e)
 
-  pub line-more : (place made : ℕ) (spent : Bool) (p : Span) (t : State) → place < size on → Step on (at place made spent) (next (Some p)) t
-      → lines_left on keep (at place made spent) ≡ (p.0, cond keep t.place p.1) ∷ lines_left on keep t
-  line-more place made true p t lt h = absurd (none-some p (sym h.0))
-  line-more place made false p t lt h =
-      let n = gave place made lt in
-      let same : p ≡ n.p = let e : Some p ≡ Some n.p = h.0 ∙ (λ i. (n.is i).0) in cc in
-      let then : t ≡ n.t = h.1 ∙ (λ i. (n.is i).1) in
-      subst (λ (u : State). Lined place made p u) (sym then) (subst (λ (q : Span). Lined place made q n.t) (sym same) n.lined)
+  -- the next line is the first of those that are left
+  pub line_yields : (place made : ℕ) (spent : Bool) → LineFirst (at place made spent) (next_line on keep (at place made spent))
+  line_yields place made spent =
+      cond_both (ltb place (size on)) _ _ (LineFirst (at place made spent))
+      (λ lt. lined place made spent (ltb-true place (size on) lt))
+      (λ past. let none = none_left place made spent (ltb-false place (size on) past) in (none, none))
