@@ -29,8 +29,8 @@ pub fn splitlines<S: AsciiStr>(
     args: SplitLinesArgs,
     places: &mut [Place],
 ) -> Result<usize, Refusal>
-    ensures value { Lists (Ok (lines_of (concat (S.AnyStr.elements text.now)) args.keepends)) places.old places.new result }
-    ensures law { LinesLaw (concat (S.AnyStr.elements text.now)) (lines_of (concat (S.AnyStr.elements text.now)) false) (lines_of (concat (S.AnyStr.elements text.now)) true) }
+    ensures value { Lists (Ok (lines_of (concat (S.elements text.now)) args.keepends)) places.old places.new result }
+    ensures law { LinesLaw (concat (S.elements text.now)) (lines_of (concat (S.elements text.now)) false) (lines_of (concat (S.elements text.now)) true) }
 {
     list(Lines::new(*text, LineEnds, args.keepends), places)
 }

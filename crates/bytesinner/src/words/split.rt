@@ -25,7 +25,7 @@ struct Shares {
 impl Shares {
     // At most `maxsplit` runs have a place alone; a negative bound is none.
     fn new<S: AnyStr>(text: &S, maxsplit: i64) -> Shares
-        ensures total { result.total ≡ length (runs (concat (S.AnyStr.elements text.now))) }
+        ensures total { result.total ≡ length (runs (concat (S.elements text.now))) }
         ensures alone { result.alone ≡ alone_of result.total maxsplit }
     {
         let total = Runs::new(*text).count();
@@ -48,8 +48,8 @@ pub fn split_whitespace<S: AnyStr>(
     maxsplit: i64,
     places: &mut [Place],
 ) -> Result<usize, Refusal>
-    ensures value { Lists (Ok (words_of (runs (concat (S.AnyStr.elements text.now))) (length (concat (S.AnyStr.elements text.now))) maxsplit)) places.old places.new result }
-    ensures law { AllRuns (concat (S.AnyStr.elements text.now)) (runs (concat (S.AnyStr.elements text.now))) }
+    ensures value { Lists (Ok (words_of (runs (concat (S.elements text.now))) (length (concat (S.elements text.now))) maxsplit)) places.old places.new result }
+    ensures law { AllRuns (concat (S.elements text.now)) (runs (concat (S.elements text.now))) }
 {
     let shares = Shares::new(text, maxsplit);
     let n = room(shares.places(), places)?;
@@ -67,8 +67,8 @@ pub fn rsplit_whitespace<S: AnyStr>(
     maxsplit: i64,
     places: &mut [Place],
 ) -> Result<usize, Refusal>
-    ensures value { Lists (Ok (rwords_of (runs (concat (S.AnyStr.elements text.now))) maxsplit)) places.old places.new result }
-    ensures law { AllRuns (concat (S.AnyStr.elements text.now)) (runs (concat (S.AnyStr.elements text.now))) }
+    ensures value { Lists (Ok (rwords_of (runs (concat (S.elements text.now))) maxsplit)) places.old places.new result }
+    ensures law { AllRuns (concat (S.elements text.now)) (runs (concat (S.elements text.now))) }
 {
     let shares = Shares::new(text, maxsplit);
     let n = room(shares.places(), places)?;
