@@ -19,8 +19,8 @@ pub fn split<S: AnyStr>(
     args: SplitArgs<S>,
     places: &mut [Place],
 ) -> Result<usize, Refusal>
-    ensures list { Lists (splits_of (concat (S.AnyStr.elements text.now)) (option_map (λ s. concat (S.AnyStr.elements s)) args.sep) args.maxsplit) places.old places.new result }
-    ensures law { SplitLaw (S.AnyStr.elements text.now) (option_map (λ s. concat (S.AnyStr.elements s)) args.sep) args.maxsplit places.new result }
+    ensures list { Lists (splits_of (concat (S.elements text.now)) (option_map (λ s. concat (S.elements s)) args.sep) args.maxsplit) places.old places.new result }
+    ensures law { SplitLaw (S.elements text.now) (option_map (λ s. concat (S.elements s)) args.sep) args.maxsplit places.new result }
 {
     match args.sep {
         Some(sep) => split_str(text, &sep, args.maxsplit, places),
@@ -36,8 +36,8 @@ pub fn rsplit<S: AnyStr>(
     args: SplitArgs<S>,
     places: &mut [Place],
 ) -> Result<usize, Refusal>
-    ensures list { Lists (rsplits_of (concat (S.AnyStr.elements text.now)) (option_map (λ s. concat (S.AnyStr.elements s)) args.sep) args.maxsplit) places.old places.new result }
-    ensures law { RsplitLaw (S.AnyStr.elements text.now) (option_map (λ s. concat (S.AnyStr.elements s)) args.sep) args.maxsplit places.new result }
+    ensures list { Lists (rsplits_of (concat (S.elements text.now)) (option_map (λ s. concat (S.elements s)) args.sep) args.maxsplit) places.old places.new result }
+    ensures law { RsplitLaw (S.elements text.now) (option_map (λ s. concat (S.elements s)) args.sep) args.maxsplit places.new result }
 {
     match args.sep {
         Some(sep) => rsplit_str(text, &sep, args.maxsplit, places),

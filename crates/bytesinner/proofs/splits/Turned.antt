@@ -1,13 +1,12 @@
 -- A list of places that is turned round.
 use Rattle.std.proofs.Common.{◌≡◌, ℕ, ◌<◌, List, [], ◌∷◌, ◌++◌, map, reverse, length, take, drop, ℤ, Ok, Err, Result, sym, refl, ap, ◌∙◌, arith}
 use mathlib.Core.List.{reverse-cons}
-use Rattle.std.specs.List.{concat}
 use Rattle.std.proofs.lemmas.List.{map_push, length-map, length-reverse, take_at, drop_at}
 use Rattle.anystr.specs.Places.{Lists, stretch, stretches}
 use Rattle.anystr.specs.declared.anystr.AnyStr
 use Rattle.anystr.specs.declared.place.Place.{Place}
 use Rattle.anystr.specs.declared.refusal.Refusal.{Refusal}
-use Rattle.searchers.specs.Marks.{Marks, Span}
+use Rattle.searchers.specs.Marks.{Span}
 use Rattle.searchers.specs.declared.searcher.Searcher
 use Rattle.searchers.specs.substring.Occurrences.{occurrence}
 use Rattle.cuts.specs.Cuts.{at_opening}

@@ -6,9 +6,7 @@ use Rattle.std.proofs.lemmas.List.{drop-drop, append-nil, take_rest}
 use Rattle.std.proofs.lemmas.Bool.{lt-ltb, le-ltb, cond_both, cond-true, cond-false}
 use Rattle.searchers.specs.Marks.{Span}
 use Rattle.bytesinner.specs.words.Words.{space, stretch_len, run, runs_from}
-
-no_run : (p : ℕ) → run p p ≡ []
-no_run p = cond-false (ltb p p) _ _ (le-ltb p p (omega arith))
+use Rattle.bytesinner.specs.words.Yields.{no_run}
 
 one_run : (a e : ℕ) → a < e → run a e ≡ (a, e) ∷ []
 one_run a e lt = cond-true (ltb a e) _ _ (lt-ltb a e lt)

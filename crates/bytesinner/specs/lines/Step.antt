@@ -1,11 +1,11 @@
 -- The next line is the first of the lines that are left. Assumes nothing.
-use Rattle.std.specs.Iterator.{YieldsFirst}
 use Rattle.std.proofs.Common.{◌≡◌, ℕ, suc, ◌<◌, ◌≤◌, Bool, true, false, cond, ltb, List, [], ◌∷◌, Some, Option, sym, refl, ap, ◌∙◌, subst, arith}
 use Rattle.std.proofs.lemmas.Bool.{lt-ltb, le-ltb, ltb-true, ltb-false, cond_both, cond-true, cond-false}
 use Rattle.searchers.specs.Marks.{Span, Lawful}
 use Rattle.cuts.specs.Cuts.{Opening, size, State, at, cut_from, between, next_of, after_cut}
 use Rattle.cuts.proofs.Found.{listed-past}
 use Rattle.cuts.proofs.Left.{first}
+use Rattle.cuts.proofs.Yielding.{GivesFirst}
 use Rattle.bytesinner.specs.lines.Lines.{filled, start_of, kept, lines_from, lines_left, as_line, next_line}
 
 -- a piece before others is a line
@@ -42,14 +42,16 @@ module _ (on : Opening) (law : Lawful on.marks (size on)) (keep : Bool) where
       let no_cut : cut_from on made place ≡ [] = listed-past on.marks on.bound made place 0 (size on) (omega arith) in
       ap (λ (ms : List Span). lines_from keep (size on) (between place (size on) ms)) no_cut ∙ ap (λ (ls : List Span). cond keep (kept (size on) ls) ls) (no_line place (size on) past) ∙ no_lines keep (size on)
 
-  -- an answer, and the state after it, give the first of the lines that are left
+  -- what is given, with the state after it, is the first of the lines that are left
   abbrev LineFirst : State → Option Span × State → Type 0
-  LineFirst s n = YieldsFirst (lines_left on keep) s n.0 n.1
+  LineFirst = GivesFirst (lines_left on keep)
 
   lined_last : (place made : ℕ) → place < size on → cut_from on made place ≡ []
       → LineFirst (at place made false) (as_line keep (Some (place, size on), at (size on) made true))
   lined_last place made lt e =
-      ap (λ (ms : List Span). lines_from keep (size on) (between place (size on) ms)) e ∙ ap (λ (ls : List Span). cond keep (kept (size on) ls) ls) (one_line place (size on) lt) ∙ lines_cons keep (size on) place (size on) (size on) [] refl
+      ap (λ (ms : List Span). lines_from keep (size on) (between place (size on) ms)) e
+      ∙ ap (λ (ls : List Span). cond keep (kept (size on) ls) ls) (one_line place (size on) lt)
+      ∙ lines_cons keep (size on) place (size on) (size on) [] refl
 
   lined_cut : (place made : ℕ) (m : Span) (ms : List Span) → cut_from on made place ≡ m ∷ ms
       → LineFirst (at place made false) (as_line keep (Some (place, m.0), at m.1 (suc made) false))
@@ -61,17 +63,25 @@ module _ (on : Opening) (law : Lawful on.marks (size on)) (keep : Bool) where
       ∙ lines_cons keep (size on) place m.0 m.1 (filled others) (starts m.1 (size on) ms f.within)
       ∙ ap (λ (cs : List Span). (place, cond keep m.1 m.0) ∷ lines_from keep (size on) (between m.1 (size on) cs)) (sym f.others)
 
-  -- a piece makes a line where the rest is not empty
-  lined : (place made : ℕ) (spent : Bool) → place < size on → LineFirst (at place made spent) (as_line keep (next_of on (at place made spent)))
+  -- a cutter's next makes a line where the rest is not empty
+  lined : (place made : ℕ) (spent : Bool) → place < size on
+      → LineFirst (at place made spent) (as_line keep (next_of on (at place made spent)))
   lined place made true lt = (no_lines keep (size on), no_lines keep (size on))
   lined place made false lt = by (cut_from on made place) refl
     where
-      by : (ms : List Span) → cut_from on made place ≡ ms → LineFirst (at place made false) (as_line keep (next_of on (at place made false)))
-      by [] e = subst (λ (n : List Span). LineFirst (at place made false) (as_line keep (after_cut (size on) (at place made false) n))) (sym e) (lined_last place made lt e)
-      by (m ∷ ms) e = subst (λ (n : List Span). LineFirst (at place made false) (as_line keep (after_cut (size on) (at place made false) n))) (sym e) (lined_cut place made m ms e)
+      s : State
+      s = at place made false
+
+      cut : List Span → Option Span × State
+      cut ms = as_line keep (after_cut (size on) s ms)
+
+      by : (ms : List Span) → cut_from on made place ≡ ms → LineFirst s (cut (cut_from on made place))
+      by [] e = subst (λ (ms : List Span). LineFirst s (cut ms)) (sym e) (lined_last place made lt e)
+      by (m ∷ ms) e = subst (λ (ms : List Span). LineFirst s (cut ms)) (sym e) (lined_cut place made m ms e)
 
   -- the next line is the first of those that are left
-  pub line_yields : (place made : ℕ) (spent : Bool) → LineFirst (at place made spent) (next_line on keep (at place made spent))
+  pub line_yields : (place made : ℕ) (spent : Bool)
+      → LineFirst (at place made spent) (next_line on keep (at place made spent))
   line_yields place made spent =
       cond_both (ltb place (size on)) _ _ (LineFirst (at place made spent))
       (λ lt. lined place made spent (ltb-true place (size on) lt))

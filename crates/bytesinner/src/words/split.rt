@@ -27,7 +27,7 @@ struct Shares {
 impl Shares {
     // At most `maxsplit` runs have a place alone; a negative bound is none.
     fn new<S: AnyStr>(text: &S, maxsplit: i64) -> Shares
-        ensures total { result.total ≡ length (runs (concat (S.AnyStr.elements text.now))) }
+        ensures total { result.total ≡ length (runs (concat (S.elements text.now))) }
         ensures alone { result.alone ≡ alone_of result.total maxsplit }
     {
         let total = Runs::new(*text).count();

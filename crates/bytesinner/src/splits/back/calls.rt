@@ -1,11 +1,10 @@
 // The calls on a cutter from the end.
-ghost use Rattle.std.specs.Prelude.{◌≡◌, refl};
+ghost use Rattle.std.specs.Prelude.{◌≡◌};
 ghost use Rattle.std.specs.Iterator.{item_count};
 ghost use Rattle.searchers.specs.Marks.{OnBoundaries};
 ghost use Rattle.cuts.specs.Cuts.{at_opening};
-ghost use Rattle.cuts.proofs.Back.{back_few};
-ghost use Rattle.bytesinner.specs.splits.Back.{opening, state, left, IsOn, BackStep, CutsNext};
-ghost use Rattle.bytesinner.specs.splits.Yields.{next-yields};
+ghost use Rattle.bytesinner.specs.splits.Back.{state, left, IsOn, BackStep, CutsNext};
+ghost use Rattle.bytesinner.specs.splits.Yields.{next-yields, counts_down};
 
 use super::BackCutter;
 use anystr::anystr::AnyStr;
@@ -17,8 +16,8 @@ use searchers::mark::Mark;
 use searchers::searcher::{ReverseSearcher, Searcher};
 
 impl<S: AnyStr, F: ReverseSearcher<S>> BackCutter<S, F> {
-    /// A cutter from the end on the whole text, with no cut made. `bound` is the most cuts that it makes; a negative one
-    /// is no bound.
+    /// A cutter from the end on the whole text, with no cut made. `bound` is the most cuts that it makes; a negative
+    /// one is no bound.
     pub fn open(text: S, searcher: F, bound: i64) -> BackCutter<S, F>
         ensures on { IsOn text searcher bound result }
         ensures state { state result ≡ at_opening }
@@ -77,7 +76,7 @@ impl<S: AnyStr, F: ReverseSearcher<S> + Drop> Pieces for BackCutter<S, F> {
 
     ghost asked = { λ _. tt };
 
-    ghost gives = { λ c r d h. next-yields c d r (F.Searcher.lawful c.searcher c.text) h };
+    ghost gives = { λ c. next-yields c (F.Searcher.lawful c.searcher c.text) };
 
-    ghost counts = { λ c. record { all = refl; few = back_few (opening c) (F.Searcher.lawful c.searcher c.text) (S.AnyStr.few c.text) (state c) } };
+    ghost counts = { λ c. counts_down c (F.Searcher.lawful c.searcher c.text) (S.AnyStr.few c.text) };
 }

@@ -40,7 +40,7 @@ returns-in_default-clause-steps g c =
 pub returns-in_default-clause-goes : goal.returns-in_default-clause-goes
 returns-in_default-clause-goes g c =
     let k = c.args.self.now in
-    goes_on span left k _ _ (next-yields k _ _ (g.met.F.Searcher.lawful k.searcher k.text) (returns-in_default-clause-steps g c))
+    goes_on span left k _ _ (next-yields k (g.met.F.Searcher.lawful k.searcher k.text) _ _ (returns-in_default-clause-steps g c))
 
 pub returns-clause-steps : goal.returns-clause-steps
 returns-clause-steps g c =
@@ -63,4 +63,4 @@ returns-clause-steps g c =
 pub returns-clause-goes : goal.returns-clause-goes
 returns-clause-goes g c =
     let k = c.args.self.now in
-    goes_on span left k _ _ (next-yields k _ _ (g.met.F.Searcher.lawful k.searcher k.text) (returns-clause-steps g c))
+    goes_on span left k _ _ (next-yields k (g.met.F.Searcher.lawful k.searcher k.text) _ _ (returns-clause-steps g c))
