@@ -8,6 +8,7 @@ use Rattle.anystr.specs.Refusals.{code, coded}
 abbrev pub stretch : Place → ℕ × ℕ
 stretch p = (p.start, p.end)
 
+-- the same of each place of a list
 abbrev pub stretches : List Place → List (ℕ × ℕ)
 stretches ps = map stretch ps
 

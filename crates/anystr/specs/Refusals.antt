@@ -5,7 +5,7 @@ use Rattle.anystr.specs.declared.refusal.Refusal.TheVariants.{EmptyNeedle, NotBy
 use Rattle.anystr.specs.declared.refusal.Refusal.TheVariants.{ResultTooLong, TooLong, TooSmall, Spent, TooFew}
 use Rattle.anystr.specs.declared.refusal.Refusal.TheVariants.{IllFormed, NotAscii, BadPlace}
 
--- the number of a refusal, and the whole number that it gives
+-- the number of a refusal, and the number that it carries, 0 where it has none
 abbrev pub code : Refusal → ℕ × ℕ
 code EmptyNeedle = (1, 0)
 code NotByte = (2, 0)

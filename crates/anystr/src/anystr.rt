@@ -14,9 +14,7 @@ pub const MAX_BYTES: usize = 16_777_216;
 
 /// A text: a view of bytes that somebody else owns, read as a list of elements. A boundary is an
 /// offset in bytes at which an element begins, or the length.
-/// Whoever adds a kind shows what its elements are, by their encodings (`elements`), that none is
-/// empty (`filled`), that they have not too many bytes (`few`), that a text occurs in another only
-/// from boundary to boundary (`whole`), and the calls that have no body here.
+/// Whoever adds a kind shows its elements, by their encodings, and the three laws of them.
 pub trait AnyStr: Copy {
     /// An element of a text.
     type Char: Copy;
@@ -27,13 +25,13 @@ pub trait AnyStr: Copy {
     // the encoding of an element
     ghost encoded: { Self.Char → List ℕ };
 
-    // no encoding is empty
+    // a law: no encoding is empty
     ghost filled: { (s : Self) → Filled (elements s) };
 
-    // a text is not too long
+    // a law: a text is not too long
     ghost few: { (s : Self) → length (concat (elements s)) ≤ most_bytes };
 
-    // where a nonempty text occurs in another of its kind, it begins and ends at boundaries
+    // a law: where a nonempty text occurs in another of its kind, it begins and ends at boundaries
     ghost whole: { (s t : Self) → OccursOnBoundaries (elements s) (concat (elements t)) };
 
     /// The bytes: the encodings of the elements, one after another.

@@ -66,18 +66,19 @@ impl<'a> AnyStr for Text<'a> {
     ghost use Rattle.std.proofs.Math.Utf8.{encode};
     ghost use Rattle.text.specs.OfText.{filled as filled_text, few as few_text};
     ghost use Rattle.text.specs.OfText.{whole as whole_text};
+    ghost use Rattle.text.specs.Text.{text_bytes};
 
     type Char = char;
 
-    ghost elements = { λ s. letters s.text.now };
+    ghost elements = { λ s. letters (text_bytes s) };
 
     ghost encoded = { encode };
 
-    ghost filled = { λ s. filled_text s.text.now };
+    ghost filled = { λ s. filled_text (text_bytes s) };
 
-    ghost few = { λ s. few_text s.text.now s.formed s.few };
+    ghost few = { λ s. few_text (text_bytes s) s.formed s.few };
 
-    ghost whole = { λ s t. whole_text s.text.now t.text.now s.formed t.formed };
+    ghost whole = { λ s t. whole_text (text_bytes s) (text_bytes t) s.formed t.formed };
 
     fn as_bytes(&self) -> &[u8] {
         self.text.as_bytes()
