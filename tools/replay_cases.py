@@ -382,6 +382,7 @@ def write():
         split(kind, b'1,2,3', b',', -1, 9)
         split(kind, b'1,2,3', b',', 1, 9)
         split(kind, b'1,2,,3,', b',', -1, 9)
+        split(kind, b'1,,2', b',', -1, 9)
         split(kind, b'1<>2<>3', b'<>', -1, 9)
         split(kind, b'1 2 3', None, -1, 9)
         split(kind, b'1 2 3', None, 1, 9)
