@@ -3,7 +3,8 @@
 
 CRATE is the unpacked archive of rustpython-vm 0.4.0. Its byte methods are taken from src/bytesinner.rs and src/anystr.rs as
 they stand there, put over stand-ins for the interpreter (stand_ins.rs) and over the crate bstr, whose searches
-they call, and built with sums that wrap; cargo has to find bstr, in its registry or in Debian's librust-bstr-dev.
+they call, and built with sums that wrap; cargo has to find bstr, in its registry or in Debian's librust-bstr-dev. With --marks
+they are put over searches that are written by the meaning of marks and cuts (marks.rs) in place of bstr's.
 
 The cases are the stored ones of replay, random short and middle ones, and long ones: texts with the most bytes that there can
 be. Their answers are CPython's. The program replay has to be built (rt run in crates/replay).
@@ -36,12 +37,12 @@ name = "crate_answers"
 version = "0.1.0"
 edition = "2021"
 
-[dependencies]
-bstr = { version = ">=0.2, <2", default-features = false, features = ["std"] }
-
 [profile.release]
 overflow-checks = false
+
+[dependencies]
 '''
+BSTR = 'bstr = { version = ">=0.2, <2", default-features = false, features = ["std"] }\n'
 
 
 def item(source, head):
@@ -74,9 +75,10 @@ def read(*path):
         return re.sub(r'//[^\n]*', '', f.read())
 
 
-def program(crate):
+def program(crate, marks):
     anystr, inner = read(crate, 'src', 'anystr.rs'), read(crate, 'src', 'bytesinner.rs')
     parts = [read(HERE, 'stand_ins.rs')]
+    parts += ['mod bstr {\n' + read(HERE, 'marks.rs') + '}\n'] if marks else []
     parts += [item(read(crate, 'src', 'function', 'argument.rs'), 'pub enum OptionalArg')]
     parts += [item(read(crate, 'src', 'function', 'either.rs'), 'pub enum Either')]
     parts += [item(anystr, head) for head in ANYSTR] + [trait(anystr)]
@@ -88,10 +90,10 @@ def program(crate):
     return re.sub(r'#\[derive\(FromArgs\)\]|#\[pyarg\([^\n]*\)\]|, result_like::\w+|, is_macro::\w+|pub\(super\) ', '', text)
 
 
-def build(crate):
-    place = os.path.join(ROOT, 'target', 'crate_answers')
+def build(crate, marks):
+    place = os.path.join(ROOT, 'target', 'crate_answers_marks' if marks else 'crate_answers')
     os.makedirs(os.path.join(place, 'src'), exist_ok=True)
-    for name, text in (('Cargo.toml', MANIFEST), ('src/main.rs', program(crate))):
+    for name, text in (('Cargo.toml', MANIFEST + BSTR * (not marks)), ('src/main.rs', program(crate, marks))):
         with open(os.path.join(place, name), 'w') as f:
             f.write(text)
     subprocess.run(['cargo', 'build', '--release', '--quiet'], cwd=place, check=True)
@@ -254,11 +256,12 @@ def clipped(words):
 def main():
     options = argparse.ArgumentParser(description=__doc__, formatter_class=argparse.RawDescriptionHelpFormatter)
     options.add_argument('crate', metavar='CRATE')
+    options.add_argument('--marks', action='store_true', help='put searches by the meaning of marks and cuts in place of bstr')
     options.add_argument('--short', type=int, default=150_000, help='how many random short cases (%(default)s)')
     options.add_argument('--middle', type=int, default=4000, help='how many middle ones (%(default)s)')
     options.add_argument('--seed', type=int, default=1)
     options = options.parse_args()
-    crate, replay = build(options.crate), os.path.join(ROOT, 'crates', 'replay', 'out', 'replay')
+    crate, replay = build(options.crate, options.marks), os.path.join(ROOT, 'crates', 'replay', 'out', 'replay')
     count = collections.defaultdict(collections.Counter)
     for length in batches(options):
         for line, port, of_crate, cpython in compared(crate, replay):
