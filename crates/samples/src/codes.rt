@@ -2,8 +2,8 @@
 use anystr::refusal::Refusal;
 
 // what a call answers: nothing, or the code of a refusal
-pub type Code = Result<(), (u8, u64)>;
+pub(super) type Code = Result<(), (u8, u64)>;
 
-pub fn code(answer: Result<(), Refusal>) -> Code {
+pub(super) fn code(answer: Result<(), Refusal>) -> Code {
     answer.map_err(|refusal| refusal.code())
 }
