@@ -123,7 +123,8 @@ module _ (rs : List Span) (bound : ℤ) (total a m : ℕ) (w : Wanted rs bound t
 
       pub words_put : total ≤ a → Lists (Ok (words_of rs len bound)) list list' (Ok n)
       words_put le =
-          lists (words_of rs len bound) list list' n (room.is ∙ sym (words_length len)) (omega (arith, room.is, room.fits))
+          lists (words_of rs len bound) list list' n
+          (room.is ∙ sym (words_length len)) (omega (arith, room.is, room.fits))
           (came.written ∙ take_all n rs (omega (arith, n_is, w.total_is)) ∙ sym (words_whole len le)) came.others
 
       pub words_put_cut : a < total → (end : ℕ) → end ≡ len → Lists (Ok (words_of rs len bound)) list (set list' a (record { start = (get_or list' a none).start; end = end })) (Ok n)
