@@ -66,7 +66,8 @@ module _ (on : Opening) (law : Lawful on.marks (size on)) where
     back_none none =
         comes_last (none_found (from_end on) end-law made seen (mirror-none on.marks (size on) law place within none))
 
-    pub back_cut : (a e : ℕ) → Few on.bound made → Greatest on.marks place a e → Comes (e, place) (at (size on - a) (suc made) false)
+    pub back_cut : (a e : ℕ) → Few on.bound made → Greatest on.marks place a e
+        → Comes (e, place) (at (size on - a) (suc made) false)
     back_cut a e few g =
         let least = mirror-least on.marks (size on) law place a e within g in
         comes e _ (law.within a e g.is) (next-cut (from_end on) end-law made seen (size on - e) (size on - a) few least)

@@ -11,8 +11,8 @@ use Rattle.cuts.proofs.Left.{nexted}
 abbrev pub GivesFirst : {A S : Type 0} → (S → List A) → S → Option A × S → Type 0
 GivesFirst left s n = YieldsFirst left s n.0 n.1
 
--- A source of items whose state has the same left: where its answer, read by `view`, and the state after it are what gives
--- the first item, the source does.
+-- A source has left what its state has. Where its answer, read by `view`, and its state after it are what gives the first
+-- of those, it gives the first itself.
 pub seen_yields : {A B S T : Type 0} (view : A → B) (left : T → List B) (now : S → List B)
     (c : T) (r : Option A) (d : T) {s t : S} {n : Option B × S}
     → left c ≡ now s → left d ≡ now t → (option_map view r, t) ≡ n → GivesFirst now s n → YieldsFirstBy view left c r d
@@ -23,7 +23,8 @@ seen_yields view left now c (Some x) d {s = s} before after e h =
 
 module _ (on : Opening) (law : Lawful on.marks (size on)) (place made : ℕ) where
   -- what next gives is the first of the pieces that are left
-  pub next_yields : (spent : Bool) → GivesFirst (pieces_left on) (at place made spent) (next_of on (at place made spent))
+  pub next_yields : (spent : Bool)
+      → GivesFirst (pieces_left on) (at place made spent) (next_of on (at place made spent))
   next_yields true = (refl, refl)
   next_yields false =
       let n = nexted on law place made in
@@ -31,7 +32,8 @@ module _ (on : Opening) (law : Lawful on.marks (size on)) (place made : ℕ) whe
 
 -- a step gives it too, read from what is given by `view`
 pub step_yields : {A : Type 0} (view : A → Span) (on : Opening) → Lawful on.marks (size on)
-    → (place made : ℕ) (spent : Bool) (r : Option A) (t : State) → Step on (at place made spent) (next (option_map view r)) t
+    → (place made : ℕ) (spent : Bool) (r : Option A) (t : State)
+    → Step on (at place made spent) (next (option_map view r)) t
     → YieldsFirstBy view (pieces_left on) (at place made spent) r t
 step_yields view on law place made spent r t h =
     let left = pieces_left on in

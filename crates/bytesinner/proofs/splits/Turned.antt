@@ -21,9 +21,11 @@ abbrev pub from_back : (bytes sep : List ℕ) → ℤ → List Span
 from_back bytes sep maxsplit = map (flip (length bytes)) (pieces_of (mirror (occurrence sep bytes) (length bytes)) (length bytes) maxsplit)
 
 -- what a cutter from the end has left where it has just been opened
-pub opened-left : {S F C : Type 0} {s : AnyStr.Ghosts S C} {f : Searcher.Ghosts F S C} {text : S} {searcher : F} {bound : ℤ} (c : BackCutter S F C s f)
-    → IsOn text searcher bound c → state c ≡ at_opening → left c ≡ left_back (opening_of s f text searcher bound) at_opening
-opened-left {s = s} {f = f} c on first = λ i. left_back (opening_of s f (on.text i) (on.searcher i) (on.bound i)) (first i)
+pub opened-left : {S F C : Type 0} {s : AnyStr.Ghosts S C} {f : Searcher.Ghosts F S C}
+    {text : S} {searcher : F} {bound : ℤ} (c : BackCutter S F C s f) → IsOn text searcher bound c → state c ≡ at_opening
+    → left c ≡ left_back (opening_of s f text searcher bound) at_opening
+opened-left {s = s} {f = f} c on first =
+    λ i. left_back (opening_of s f (on.text i) (on.searcher i) (on.bound i)) (first i)
 
 stretches-reverse : (ps : List Place) → stretches (reverse ps) ≡ reverse (stretches ps)
 stretches-reverse [] = refl

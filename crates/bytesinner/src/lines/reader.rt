@@ -67,7 +67,6 @@ impl<S: AnyStr, F: Searcher<S> + Drop> Pieces for Lines<S, F> {
 
     ghost gives = { λ l. next-yields l (F.Searcher.lawful l.cutter.searcher l.cutter.text) };
 
-    ghost counts = {
-        λ l. counts_down l (F.Searcher.lawful l.cutter.searcher l.cutter.text) (S.AnyStr.few l.cutter.text)
-    };
+    ghost counts = { λ l. counts_down l
+        (F.Searcher.lawful l.cutter.searcher l.cutter.text) (S.AnyStr.few l.cutter.text) };
 }

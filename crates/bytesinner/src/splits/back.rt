@@ -11,8 +11,8 @@ use std::alloc::AllocError;
 pub mod calls;
 
 /// A text that is cut at the marks of a searcher from the end, while fewer cuts are made than the bound.
-/// Its place, down to which it has cut, is a boundary of the text, and the rest is the text before it. A spent cutter
-/// has given its last piece, and its place is 0.
+/// Its place, down to which it has cut, is a boundary of the text, and the rest is the text before it. A spent
+/// cutter has given its last piece.
 // A type beside `Cutter`, with its progress: it asks another sort of searcher by another method, and each piece lies
 // before the place.
 #[derive(Drop)]

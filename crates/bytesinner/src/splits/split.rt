@@ -11,20 +11,23 @@ use cutters::cutter::Cutter;
 use cutters::pieces::fill::list;
 use searchers::substring::Substring;
 
-/// Lists the places in bytes between the separators that are cut from the front, at most `maxsplit` of them; a negative
-/// `maxsplit` is no bound. An empty separator is refused (1), and then a list with too few entries (7, with the number of
-/// places).
+/// Lists the places in bytes between the separators that are cut from the front, at most `maxsplit` of them; a
+/// negative `maxsplit` is no bound. An empty separator is refused (1), and then a list with too few entries (7, with
+/// the number of places).
 pub fn split_str<S: AnyStr>(
     text: &S,
     sep: &S,
     maxsplit: i64,
     places: &mut [Place],
 ) -> Result<usize, Refusal>
-    ensures list { Lists (split_of (concat (S.elements text.now)) (concat (S.elements sep.now)) maxsplit)
+    ensures list { Lists
+        (split_of (concat (S.elements text.now)) (concat (S.elements sep.now)) maxsplit)
         places.old places.new result }
-    ensures rule { OfWritten (SplitFront (concat (S.elements text.now)) (concat (S.elements sep.now)) maxsplit)
+    ensures rule { OfWritten
+        (SplitFront (concat (S.elements text.now)) (concat (S.elements sep.now)) maxsplit)
         places.new result }
-    ensures restores { OfWritten (Restore (concat (S.elements text.now)) (concat (S.elements sep.now)))
+    ensures restores { OfWritten
+        (Restore (concat (S.elements text.now)) (concat (S.elements sep.now)))
         places.new result }
     ensures cut { OfWritten (Cuttable (S.elements text.now)) places.new result }
 {

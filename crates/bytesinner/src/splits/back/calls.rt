@@ -78,5 +78,6 @@ impl<S: AnyStr, F: ReverseSearcher<S> + Drop> Pieces for BackCutter<S, F> {
 
     ghost gives = { λ c. next-yields c (F.Searcher.lawful c.searcher c.text) };
 
-    ghost counts = { λ c. counts_down c (F.Searcher.lawful c.searcher c.text) (S.AnyStr.few c.text) };
+    ghost counts = { λ c. counts_down c
+        (F.Searcher.lawful c.searcher c.text) (S.AnyStr.few c.text) };
 }
