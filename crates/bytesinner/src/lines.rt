@@ -23,9 +23,9 @@ pub struct SplitLinesArgs {
     pub keepends: bool,
 }
 
-/// Lists the lines of a text, as starts and ends in bytes that can be cut out of it, and gives their
-/// number; a line end at the end of the text begins no further line. Refused where the list has too
-/// few entries (7, with the number of lines), and then the list is as it was.
+/// Lists the lines of a text, as starts and ends in bytes that can be cut out of it, and gives
+/// their number; a line end at the end of the text begins no further line. Refused where the list
+/// has too few entries (7, with the number of lines), and then the list is as it was.
 pub fn splitlines<S: AsciiStr>(
     text: &S,
     args: SplitLinesArgs,

@@ -11,9 +11,9 @@ use anystr::anystr::AnyStr;
 use anystr::place::Place;
 use anystr::refusal::Refusal;
 
-/// Lists the places that a text is split into from the front, as starts and ends in bytes, and gives
-/// their number. Refused where the separator is empty (1), and else where the list has too few
-/// entries (7, with the number of places); the list is then as it was.
+/// Lists the places that a text is split into from the front, as starts and ends in bytes, and
+/// gives their number. Refused where the separator is empty (1), and else where the list has too
+/// few entries (7, with the number of places); the list is then as it was.
 pub fn split<S: AnyStr>(
     text: &S,
     args: SplitArgs<S>,

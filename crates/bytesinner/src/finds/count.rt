@@ -29,9 +29,9 @@ impl<'a> Stretch<'a> {
     }
 }
 
-/// How often the sub stands in the text without overlap, counted from the front, from the start that is meant to the
-/// end; an empty one stands at each offset. Refused where the sub is a number that is no byte (2) or has more bytes than
-/// a text may have (6).
+/// How often the sub stands in the text without overlap, counted from the front, from the start
+/// that is meant to the end; an empty one stands at each offset. Refused where the sub is a number
+/// that is no byte (2) or has more bytes than a text may have (6).
 pub fn count(text: &Bytes<'_>, options: ByteInnerFindOptions<'_>) -> Result<usize, Refusal>
     ensures value { coded result ≡ answer_of count_of (byte_list text.now) options.entry }
     ensures law { Keeps Number (byte_list text.now) options.entry result }

@@ -27,8 +27,8 @@ impl<'a> Stretch<'a> {
         Some(self.range.start + mark.start)
     }
 
-    // The last place of the needle. Not one function with the first: it asks the searcher from the end, and finds an
-    // empty needle there.
+    // The last place of the needle. Not one function with the first: it asks the searcher from the
+    // end, and finds an empty needle there.
     fn last_place(&self, needle: Bytes<'_>) -> Option<usize>
         ensures { LastPlace (byte_list self.now.text) (byte_list needle.entry)
             self.now.range.start self.now.range.end result }
@@ -42,8 +42,9 @@ impl<'a> Stretch<'a> {
     }
 }
 
-/// The least offset in the text, in bytes, at which the sub stands, from the start that is meant to the end; none where
-/// there is none. Refused where the sub is a number that is no byte (2) or has more bytes than a text may have (6).
+/// The least offset in the text, in bytes, at which the sub stands, from the start that is meant to
+/// the end; none where there is none. Refused where the sub is a number that is no byte (2) or has
+/// more bytes than a text may have (6).
 pub fn find(text: &Bytes<'_>, options: ByteInnerFindOptions<'_>) -> Result<Option<usize>, Refusal>
     ensures value { coded result ≡ answer_of find_of (byte_list text.now) options.entry }
     ensures law { Keeps FirstPlace (byte_list text.now) options.entry result }
@@ -51,9 +52,9 @@ pub fn find(text: &Bytes<'_>, options: ByteInnerFindOptions<'_>) -> Result<Optio
     options.ask(text, |stretch, needle| stretch.first_place(needle))
 }
 
-/// The greatest offset in the text, in bytes, at which the sub stands, from the start that is meant to the end; none
-/// where there is none. Refused where the sub is a number that is no byte (2) or has more bytes than a text may have
-/// (6).
+/// The greatest offset in the text, in bytes, at which the sub stands, from the start that is meant
+/// to the end; none where there is none. Refused where the sub is a number that is no byte (2) or
+/// has more bytes than a text may have (6).
 pub fn rfind(text: &Bytes<'_>, options: ByteInnerFindOptions<'_>) -> Result<Option<usize>, Refusal>
     ensures value { coded result ≡ answer_of rfind_of (byte_list text.now) options.entry }
     ensures law { Keeps LastPlace (byte_list text.now) options.entry result }

@@ -57,8 +57,8 @@ impl<'a> Needle<'a> {
 }
 
 impl<'a> ByteInnerFindOptions<'a> {
-    /// The needle and the offsets that are meant in `len` bytes; refused where the sub is a number that is no byte (2) or
-    /// has more bytes than a text may have (6).
+    /// The needle and the offsets that are meant in `len` bytes; refused where the sub is a number
+    /// that is no byte (2) or has more bytes than a text may have (6).
     pub fn get_value(self, len: usize) -> Result<(Needle<'a>, Range<usize>), Refusal>
         ensures { coded_target result ≡ answer_in target self.entry len }
     {
@@ -72,8 +72,8 @@ impl<'a> ByteInnerFindOptions<'a> {
         Ok((needle, adjust_indices(self.start, self.end, len)))
     }
 
-    // What `search` answers for the stretch and the needle that are meant in the text; refused where the sub is no byte
-    // or too long.
+    // What `search` answers for the stretch and the needle that are meant in the text; refused
+    // where the sub is no byte or too long.
     pub(super) fn ask<R, F: FnOnce(Stretch<'_>, Bytes<'_>) -> R>(
         self,
         text: &Bytes<'_>,
@@ -81,7 +81,8 @@ impl<'a> ByteInnerFindOptions<'a> {
     ) -> Result<R, Refusal>
         requires { F.IsAlwaysCallable search }
         ensures answer { IfOk result (λ x. (stretch : _) × (needle : _)
-            × Meant self.entry text.now stretch (byte_list needle) × F.post search stretch needle x) }
+            × Meant self.entry text.now stretch (byte_list needle)
+            × F.post search stretch needle x) }
         ensures refused { IfErr result (λ e. sub_of self.entry.sub ≡ Err (code e)) }
     {
         let (needle, range) = self.get_value(text.bytes_len())?;

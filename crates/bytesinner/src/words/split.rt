@@ -5,7 +5,8 @@ ghost use Rattle.anystr.specs.Places.{Lists};
 ghost use Rattle.anystr.specs.Texts.{bytes_of};
 ghost use Rattle.searchers.specs.Ascii.{AsciiApart};
 ghost use Rattle.bytesinner.specs.Written.{OfWritten, Cuttable};
-ghost use Rattle.bytesinner.specs.words.Words.{runs, alone as alone_of, words_of, rwords_of, AllRuns};
+ghost use Rattle.bytesinner.specs.words.Words.{runs, alone as alone_of, AllRuns};
+ghost use Rattle.bytesinner.specs.words.Words.{words_of, rwords_of};
 
 use super::runs::Runs;
 use anystr::anystr::AnyStr;
@@ -44,10 +45,10 @@ impl Shares {
 }
 
 /// Lists the words of a text, its runs without whitespace, as starts and ends in bytes, and gives
-/// their number. Where there are more runs than a `maxsplit` of 0 or above, the place after the first
-/// `maxsplit` goes on to the end of the text. Each place can be cut out of a text in which bytes below
-/// 128 stand apart. Refused where the list has too few entries (7, with the number of places), and
-/// then the list is as it was.
+/// their number. Where there are more runs than a `maxsplit` of 0 or above, the place after the
+/// first `maxsplit` goes on to the end of the text. Each place can be cut out of a text in which
+/// bytes below 128 stand apart. Refused where the list has too few entries (7, with the number of
+/// places), and then the list is as it was.
 pub fn split_whitespace<S: AnyStr>(
     text: &S,
     maxsplit: i64,
@@ -68,10 +69,10 @@ pub fn split_whitespace<S: AnyStr>(
     Ok(n)
 }
 
-/// Lists the words of a text as `split_whitespace` does, from the end: where there are more runs than a
-/// `maxsplit` of 0 or above, the place before the last `maxsplit` begins at the start of the text.
-/// Refused where the list has too few entries (7, with the number of places), and then the list is as
-/// it was.
+/// Lists the words of a text as `split_whitespace` does, from the end: where there are more runs
+/// than a `maxsplit` of 0 or above, the place before the last `maxsplit` begins at the start of the
+/// text. Refused where the list has too few entries (7, with the number of places), and then the
+/// list is as it was.
 pub fn rsplit_whitespace<S: AnyStr>(
     text: &S,
     maxsplit: i64,
