@@ -1,5 +1,6 @@
 pub mod Splitting
 pub mod Written
+pub mod Openings
 pub mod splits
 pub mod words
 pub mod lines

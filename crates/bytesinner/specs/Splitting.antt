@@ -1,6 +1,9 @@
 -- What a text is split into, at a separator or at whitespace. Assumes nothing.
-use Rattle.std.specs.Prelude.{ℕ, List, length, ℤ, Some, None, Ok, Option, Result}
+use Rattle.std.specs.Prelude.{ℕ, List, ℤ, Some, None, Ok, Option, Result}
 use Rattle.std.specs.List.{concat}
+use Rattle.std.specs.Option.{option_map}
+use Rattle.anystr.specs.Texts.{bytes_of}
+use Rattle.anystr.specs.declared.anystr.AnyStr
 use Rattle.anystr.specs.declared.place.Place.{Place}
 use Rattle.anystr.specs.declared.refusal.Refusal.{Refusal}
 use Rattle.searchers.specs.Ascii.{AsciiApart}
@@ -8,16 +11,21 @@ use Rattle.searchers.specs.Marks.{Span}
 use Rattle.bytesinner.specs.Written.{OfWritten, Cuttable}
 use Rattle.bytesinner.specs.splits.Separated.{split_of, rsplit_of, SplitFront, SplitBack, Restore}
 use Rattle.bytesinner.specs.words.Words.{runs, words_of, rwords_of, AllRuns}
+use Rattle.bytesinner.specs.declared.splitargs.SplitArgs.{SplitArgs}
+
+-- the bytes of the separator, where the arguments give one
+abbrev pub sep_of : {S C : Type 0} → AnyStr.Ghosts S C → SplitArgs S → Option (List ℕ)
+sep_of kind args = option_map (bytes_of kind) args.sep
 
 -- split: by the separator, or the words where there is none
 abbrev pub splits_of : List ℕ → Option (List ℕ) → ℤ → Result (List Span) (ℕ × ℕ)
 splits_of bytes (Some sep) maxsplit = split_of bytes sep maxsplit
-splits_of bytes None maxsplit = Ok (words_of (runs bytes) (length bytes) maxsplit)
+splits_of bytes None maxsplit = Ok (words_of bytes maxsplit)
 
 -- rsplit: the same from the end
 abbrev pub rsplits_of : List ℕ → Option (List ℕ) → ℤ → Result (List Span) (ℕ × ℕ)
 rsplits_of bytes (Some sep) maxsplit = rsplit_of bytes sep maxsplit
-rsplits_of bytes None maxsplit = Ok (rwords_of (runs bytes) maxsplit)
+rsplits_of bytes None maxsplit = Ok (rwords_of bytes maxsplit)
 
 -- What split and rsplit keep besides the list. At a separator, the places lie between the occurrences that the rule
 -- cuts, are joined to the text again, and can be cut out of it. At whitespace, the words are the text's runs, and the

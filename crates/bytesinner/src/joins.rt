@@ -25,10 +25,11 @@ struct Parts<'a, S: AnyStr> {
     ghost few: { length places.now ≤ most_places },
 }
 
-/// Appends the parts of the text at these places, in their order and with `sep` between each and the next. A place is a
-/// start and an end in bytes. Refused, and the tray is as it was, where there are more than `MAX_PLACES` (6), else
-/// where a place runs backward or is off the boundaries of the text (12, with the index of the first such), and else
-/// where fewer bytes are free than the parts take joined (7, with their number).
+/// Appends the parts of the text at these places, in their order and with `sep` between each and
+/// the next. A place is a start and an end in bytes. Refused, and the tray is as it was, where
+/// there are more than `MAX_PLACES` (6), else where a place runs backward or is off the boundaries
+/// of the text (12, with the index of the first such), and else where fewer bytes are free than the
+/// parts take joined (7, with their number).
 pub fn join<S: AnyStr, T: AnyStrContainer>(
     sep: &S,
     text: &S,

@@ -5,7 +5,8 @@ ghost use Rattle.anystr.specs.Texts.{bytes_of};
 ghost use Rattle.trays.specs.Trays.{Fills, gained};
 ghost use Rattle.bytesinner.specs.replaces.Replaces.{bound_of, copies as copies_of, if_short};
 ghost use Rattle.bytesinner.specs.replaces.Replaces.{replace_of, ReplaceLaw};
-ghost use Rattle.bytesinner.specs.replaces.Replacements.{marks_replaced, copies_spread, all_replaced};
+ghost use Rattle.bytesinner.specs.replaces.Replacements.{marks_replaced, copies_spread};
+ghost use Rattle.bytesinner.specs.replaces.Replacements.{all_replaced};
 
 use anystr::anystr::AnyStr;
 use anystr::optional::OptionalArg;
@@ -49,7 +50,8 @@ impl<S: AnyStr> Replacement<S> {
         u64::try_from(self.bound).map_or(gaps, |bound| gaps.min(bound))
     }
 
-    // The bytes that the text takes with these copies of `to`, which are counted once: that goes over the text.
+    // The bytes that the text takes with these copies of `to`, which are counted once: that goes
+    // over the text.
     fn measure(&self, copies: u64) -> u64
         requires { copies ≡ copies_of (length (S.elements self.now.text)) self.now.bound }
         ensures { result ≡ length (copies_spread S.AnyStr self.now) }
@@ -57,7 +59,8 @@ impl<S: AnyStr> Replacement<S> {
         self.text.bytes_len() as u64 + copies * self.to.bytes_len() as u64
     }
 
-    // Appends the text, which fits, with these copies of `to`: one before each element, and the last at the end.
+    // Appends the text, which fits, with these copies of `to`: one before each element, and the
+    // last at the end.
     fn spread_copies<T: AnyStrContainer>(&self, copies: u64, tray: &mut T)
         requires count { copies ≡ copies_of (length (S.elements self.now.text)) self.now.bound }
         requires fits { length (copies_spread S.AnyStr self.now)
@@ -113,10 +116,10 @@ impl<S: AnyStr> Replacement<S> {
     }
 }
 
-/// Appends the text with `to` in place of each occurrence of `from`, as often as `maxcount` allows; no number or a
-/// negative one is no bound. An empty `from` stands before each element and at the end. Refused, and the tray is as it
-/// was, where the result has more than `MAX_RESULT` bytes (5), and else where fewer are free than it has (7, with their
-/// number).
+/// Appends the text with `to` in place of each occurrence of `from`, as often as `maxcount` allows;
+/// no number or a negative one is no bound. An empty `from` stands before each element and at the
+/// end. Refused, and the tray is as it was, where the result has more than `MAX_RESULT` bytes (5),
+/// and else where fewer are free than it has (7, with their number).
 pub fn replace<S: AnyStr, T: AnyStrContainer>(
     text: &S,
     from: &S,

@@ -1,4 +1,4 @@
-// How a caller uses the library, each with a promise about his own values that is proved from public clauses alone.
+// Uses of the library, each with a promise to its caller that is proved from public clauses alone.
 #![tactic(auto)]
 
 pub mod pages;

@@ -10,8 +10,9 @@ use anystr::refusal::Refusal;
 use bytesinner::replace;
 use trays::buffer::Buffer;
 
-/// Writes the row with `to` in place of each `from` at the start of the page; what is not written on stays. Refused (7,
-/// with the bytes needed) where the page is too short, and then all of it is as it was.
+/// Writes the row with `to` in place of each `from` at the start of the page; what is not written
+/// on stays. Refused (7, with the bytes needed) where the page is too short, and then all of it is
+/// as it was.
 pub fn replaced_onto<S: AnyStr>(row: &S, from: &S, to: &S, page: &mut [u8]) -> Result<(), Refusal>
     ensures { IsOverwritten (replace_of (S.elements row.now) (bytes_of S.AnyStr from.now)
         (bytes_of S.AnyStr to.now) unbounded) page.old page.new result }
@@ -19,7 +20,8 @@ pub fn replaced_onto<S: AnyStr>(row: &S, from: &S, to: &S, page: &mut [u8]) -> R
     replace(row, from, to, OptionalArg::Missing, &mut Buffer::new(page))
 }
 
-/// The same into the first `room` bytes of the page alone: those past them are as they were, whatever comes of it.
+/// The same into the first `room` bytes of the page alone: those past them are as they were,
+/// whatever comes of it.
 pub fn replaced_into<S: AnyStr>(
     row: &S,
     from: &S,

@@ -2,8 +2,8 @@
 use anystr::indices::adjust_indices;
 
 // A start, an end and a length, and the offsets that they mean: the first two of CPython's
-// slice(start, end).indices(len) where the start is not above the length. A start above it stays as it is:
-// b''.find(b'', 1) finds nothing, where a start cut at the length would find the empty text.
+// slice(start, end).indices(len) where the start is not above the length. A start above it stays as
+// it is: b''.find(b'', 1) finds nothing, where a start cut at the length would find the empty text.
 const ROWS: [(Option<i64>, Option<i64>, usize, usize, usize); 25] = [
     (None, None, 0, 0, 0),
     (None, None, 5, 0, 5),

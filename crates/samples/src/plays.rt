@@ -14,7 +14,8 @@ use trays::label::Label;
 // no call below answers so
 const UNWRITTEN: Answer = Answer::Rest(Piece { start: 9, end: 9 });
 
-// Calls on `a,b` cut at commas, of which a text has 2 pieces; the answers go into a list of `ROOM` entries.
+// Calls on `a,b` cut at commas, of which a text has 2 pieces; the answers go into a list of `ROOM`
+// entries.
 fn played<const ROOM: usize>() -> (Code, [Answer; ROOM]) {
     let calls = [
         Call::Skip(3),
@@ -60,8 +61,8 @@ fn too_few_entries(rt: HostRuntime) {
     assert_eq!(rt; played(), (Err((7, 4)), [UNWRITTEN; 3]));
 }
 
-// A pour into each of several trays: one over 2 bytes that are lent, which has too few free, one that the list has not,
-// and a label.
+// A pour into each of several trays: one over 2 bytes that are lent, which has too few free, one
+// that the list has not, and a label.
 #[test]
 fn several_trays(rt: HostRuntime) {
     let mut lent = *b"zz";

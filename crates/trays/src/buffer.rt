@@ -7,8 +7,8 @@ use super::put::put;
 use anystr::anystr::AnyStr;
 use anystr::refusal::Refusal;
 
-/// A tray over a slice that the caller lends. What it holds stands first in the slice, and the bytes past that are as
-/// the caller left them.
+/// A tray over a slice that the caller lends. What it holds stands first in the slice, and the
+/// bytes past that are as the caller left them.
 // A length beside the slice, and no `Vec`: the room is the caller's, and there is no heap.
 #[derive(Drop)]
 pub struct Buffer<'a> {

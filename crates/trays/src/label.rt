@@ -11,8 +11,8 @@ use std::marker::Model;
 /// The bytes of a label.
 pub const LABEL_BYTES: usize = 80;
 
-/// A tray of 80 bytes that is held by value. Every byte past those that it holds is zero. In contracts a label is the
-/// list of the bytes that it holds.
+/// A tray of 80 bytes that is held by value. Every byte past those that it holds is zero. In
+/// contracts a label is the list of the bytes that it holds.
 // A length beside the bytes, and no `Vec`: a label is held by value.
 #[derive(Drop)]
 pub struct Label {

@@ -1,5 +1,5 @@
 -- The number of cuts, by what a search answers and by the rule of a cutter.
-use Rattle.std.proofs.Common.{◌≡◌, ℕ, zero, suc, ◌+◌, ◌<◌, ◌≤◌, leb, List, [], ◌∷◌, length, negsuc, sym, ap, ◌∙◌, subst, arith}
+use Rattle.std.proofs.Common.{◌≡◌, ℕ, zero, suc, ◌+◌, ◌<◌, ◌≤◌, leb, List, [], ◌∷◌, length, sym, ap, ◌∙◌, subst, arith}
 use Rattle.std.proofs.lemmas.List.{nil_from_length}
 use Rattle.std.proofs.lemmas.Bool.{le-leb, lt-leb, cond-true, cond-false, leb-false, cond_both}
 use Rattle.searchers.specs.Marks.{Span, CutTimes}
@@ -10,29 +10,30 @@ use Rattle.cuts.proofs.Found.{cut-found, none_found}
 use Rattle.cuts.proofs.Greedy.{greedy_rule}
 use Rattle.cuts.proofs.Listed.{greedy_cuts}
 use Rattle.cuts.proofs.Reach.{to_the_end, length-marks}
-use Rattle.bytesinner.specs.finds.Counts.{cut_by, times, count_of, CutUp, Number}
+use Rattle.bytesinner.specs.Openings.{unbounded, opening_at}
+use Rattle.bytesinner.specs.finds.Counts.{times, count_of, CutUp, Number}
 use Rattle.anystr.specs.Places.{part}
 use Rattle.bytesinner.proofs.finds.Parts.{length_part}
 
 -- as many cuts are still to be made from a place on as marks are cut from there
-cuts-are : (n bs : List ℕ) (made place k : ℕ) → CutTimes (occurrence n bs) place k → length (cut_from (cut_by n bs) made place) ≡ k
-cuts-are n bs made place zero none = ap length (none_found (cut_by n bs) (occurrence-lawful n bs) made place none)
-cuts-are n bs made place (suc k) (s, e, least, rest) = ap length (cut-found (cut_by n bs) (occurrence-lawful n bs) made place s e tt least) ∙ ap suc (cuts-are n bs (suc made) e k rest)
+cuts-are : (n bs : List ℕ) (made place k : ℕ) → CutTimes (occurrence n bs) place k → length (cut_from (opening_at bs n unbounded) made place) ≡ k
+cuts-are n bs made place zero none = ap length (none_found (opening_at bs n unbounded) (occurrence-lawful n bs) made place none)
+cuts-are n bs made place (suc k) (s, e, least, rest) = ap length (cut-found (opening_at bs n unbounded) (occurrence-lawful n bs) made place s e tt least) ∙ ap suc (cuts-are n bs (suc made) e k rest)
 
 times-are : (n bs : List ℕ) (k : ℕ) → 0 < length n → CutTimes (occurrence n bs) 0 k → k ≡ times n bs
 times-are [] bs k some cut = absurd (omega arith)
 times-are (x ∷ n) bs k some cut = sym (cuts-are (x ∷ n) bs 0 0 k cut)
 
-cut_up : (n bs : List ℕ) → CutUp n bs (length (cut_from (cut_by n bs) 0 0))
+cut_up : (n bs : List ℕ) → CutUp n bs (length (cut_from (opening_at bs n unbounded) 0 0))
 cut_up n bs =
     let law = occurrence-lawful n bs in
-    let end = to_the_end (cut_by n bs) law in
-    let rule = greedy_rule (negsuc 0) law _ (length bs) (greedy_cuts (negsuc 0) law 0 0 (omega arith)) in
+    let end = to_the_end (opening_at bs n unbounded) law in
+    let rule = greedy_rule unbounded law _ (length bs) (greedy_cuts unbounded law 0 0 (omega arith)) in
     record {
       row = end.0;
       tail = end.1;
       lie = end.3;
-      rule = subst (λ (cut : List Span). CutRule (occurrence n bs) (negsuc 0) (length bs) cut) end.2 rule;
+      rule = subst (λ (cut : List Span). CutRule (occurrence n bs) unbounded (length bs) cut) end.2 rule;
       number = sym (ap length end.2 ∙ length-marks end.0);
     }
 
@@ -50,8 +51,8 @@ number bs [] a b within = (
   λ past. cond-false (leb a b) _ _ (lt-leb a b past),
 )
 number bs (x ∷ n) a b within =
-    let k = length (cut_from (cut_by (x ∷ n) (part bs (a, b))) 0 0) in
-    let empty : b < a → 0 ≡ k = λ past. sym (ap (λ (p : List ℕ). length (cut_from (cut_by (x ∷ n) p) 0 0)) (nil_from_length (part bs (a, b)) (omega (arith, length_part bs a b within)))) in
+    let k = length (cut_from (opening_at (part bs (a, b)) (x ∷ n) unbounded) 0 0) in
+    let empty : b < a → 0 ≡ k = λ past. sym (ap (λ (p : List ℕ). length (cut_from (opening_at p (x ∷ n) unbounded) 0 0)) (nil_from_length (part bs (a, b)) (omega (arith, length_part bs a b within)))) in
     let P : ℕ → Type 0 = λ m. CutUp (x ∷ n) (part bs (a, b)) m in
     cond_both (leb a b) k 0 P (λ _. cut_up (x ∷ n) (part bs (a, b))) (λ t. subst P (sym (empty (leb-false a b t))) (cut_up (x ∷ n) (part bs (a, b))))
 

@@ -1,5 +1,6 @@
 -- Where a needle stands, by the definitions and by what a search of a part answers.
 use Rattle.std.proofs.Common.{◌≡◌, ℕ, suc, ◌+◌, ◌-◌, ◌<◌, ◌≤◌, Bool, true, false, cond, T, leb, List, [], ◌∷◌, length, take, drop, Some, None, Option, sym, refl, ap, ◌∙◌, ⊎_elim, le_refl, arith, length-take}
+use Rattle.std.specs.Option.{option_or}
 use Rattle.std.proofs.lemmas.List.{take-take, nil_from_length}
 use Rattle.std.proofs.lemmas.Bool.{both_ways, cases_eq, cond_both, leb-true, leb-false, lt-ltb, eq-eqb, and_from}
 use Rattle.anystr.specs.OfBytes.{occurs-within}
@@ -8,7 +9,7 @@ use Rattle.searchers.specs.Truth.{truth}
 use Rattle.searchers.specs.substring.Occurrences.{begins_with, occurrence, occurrence-is, taken}
 use Rattle.searchers.proofs.substring.Needles.{begun}
 use Rattle.anystr.specs.Places.{part}
-use Rattle.bytesinner.specs.finds.Places.{or_else, first, last, find_of, rfind_of, Stands, Nowhere, FirstPlace, LastPlace}
+use Rattle.bytesinner.specs.finds.Places.{first_place, last_place, find_of, rfind_of, Stands, Nowhere, FirstPlace, LastPlace}
 use Rattle.bytesinner.proofs.finds.Parts.{length_part, drop-part}
 
 module _ (bs n : List ℕ) (b : ℕ) (within : b ≤ length bs) where
@@ -35,13 +36,13 @@ module _ (bs n : List ℕ) (b : ℕ) (within : b ≤ length bs) where
   not_here a p fails s e = both_ways (begins_with n (part bs (a, b))) fails (ap (λ q. begins_with n (part bs (q, b))) e ∙ stood a p s)
 
   -- the first place, where r is the first one from suc a on
-  turn : (a : ℕ) → a ≤ b → (r : Option ℕ) → FirstPlace bs n (suc a) b r → (t : Bool) → begins_with n (part bs (a, b)) ≡ t → FirstPlace bs n a b (or_else (cond t (Some a) None) r)
+  turn : (a : ℕ) → a ≤ b → (r : Option ℕ) → FirstPlace bs n (suc a) b r → (t : Bool) → begins_with n (part bs (a, b)) ≡ t → FirstPlace bs n a b (option_or (cond t (Some a) None) r)
   turn a le r f true is = (stands a a (le_refl a) le is, λ q s. s.after)
   turn a le None f false is = λ p s. f p (further a p (not_here a p is s) s)
   turn a le (Some p) f false is = (wider a p f.0, λ q s. f.1 q (further a q (not_here a q is s) s))
 
   -- the last place, where r is the last one from suc a on
-  turn_back : (a : ℕ) → a ≤ b → (r : Option ℕ) → LastPlace bs n (suc a) b r → (t : Bool) → begins_with n (part bs (a, b)) ≡ t → LastPlace bs n a b (or_else r (cond t (Some a) None))
+  turn_back : (a : ℕ) → a ≤ b → (r : Option ℕ) → LastPlace bs n (suc a) b r → (t : Bool) → begins_with n (part bs (a, b)) ≡ t → LastPlace bs n a b (option_or r (cond t (Some a) None))
   turn_back a le (Some p) f t is =
       (wider a p f.0, λ q s. ⊎_elim (λ e. omega (arith, f.0.after)) (λ other. f.1 q (further a q other s)) (cases_eq a q))
   turn_back a le None f true is =
@@ -57,29 +58,29 @@ module _ (bs n : List ℕ) (b : ℕ) (within : b ≤ length bs) where
       let s : a + 1 ≡ suc a = omega arith in
       (omega arith, ap (drop 1) e ∙ (drop-part bs a b 1 lt ∙ ap (λ k. part bs (k, b)) s))
 
-  first-from : (xs : List ℕ) (a : ℕ) → a ≤ b → xs ≡ part bs (a, b) → FirstPlace bs n a b (first n xs a)
-  first-from [] a le e =
+  first_place-from : (xs : List ℕ) (a : ℕ) → a ≤ b → xs ≡ part bs (a, b) → FirstPlace bs n a b (first_place n xs a)
+  first_place-from [] a le e =
       let past : b < suc a = omega (arith, ap length e, length_part bs a b within) in
       let both = turn a le None (nowhere-further (suc a) past) in
       cond_both (begins_with n []) (Some a) None (FirstPlace bs n a b) (λ t. both true (ap (begins_with n) (sym e) ∙ t)) (λ t. both false (ap (begins_with n) (sym e) ∙ t))
-  first-from (x ∷ xs) a le e =
+  first_place-from (x ∷ xs) a le e =
       let t = tail x xs a e in
-      turn a le (first n xs (suc a)) (first-from xs (suc a) t.0 t.1) (begins_with n (x ∷ xs)) (ap (begins_with n) (sym e))
+      turn a le (first_place n xs (suc a)) (first_place-from xs (suc a) t.0 t.1) (begins_with n (x ∷ xs)) (ap (begins_with n) (sym e))
 
-  last-from : (xs : List ℕ) (a : ℕ) → a ≤ b → xs ≡ part bs (a, b) → LastPlace bs n a b (last n xs a)
-  last-from [] a le e =
+  last_place-from : (xs : List ℕ) (a : ℕ) → a ≤ b → xs ≡ part bs (a, b) → LastPlace bs n a b (last_place n xs a)
+  last_place-from [] a le e =
       let past : b < suc a = omega (arith, ap length e, length_part bs a b within) in
       turn_back a le None (nowhere-further (suc a) past) (begins_with n []) (ap (begins_with n) (sym e))
-  last-from (x ∷ xs) a le e =
+  last_place-from (x ∷ xs) a le e =
       let t = tail x xs a e in
-      turn_back a le (last n xs (suc a)) (last-from xs (suc a) t.0 t.1) (begins_with n (x ∷ xs)) (ap (begins_with n) (sym e))
+      turn_back a le (last_place n xs (suc a)) (last_place-from xs (suc a) t.0 t.1) (begins_with n (x ∷ xs)) (ap (begins_with n) (sym e))
 
   -- the definitions keep the laws
   find_first : (a : ℕ) → FirstPlace bs n a b (find_of bs n a b)
-  find_first a = cond_both (leb a b) _ _ (FirstPlace bs n a b) (λ t. first-from (part bs (a, b)) a (leb-true a b t) refl) (λ t. nowhere-further a (leb-false a b t))
+  find_first a = cond_both (leb a b) _ _ (FirstPlace bs n a b) (λ t. first_place-from (part bs (a, b)) a (leb-true a b t) refl) (λ t. nowhere-further a (leb-false a b t))
 
   rfind_last : (a : ℕ) → LastPlace bs n a b (rfind_of bs n a b)
-  rfind_last a = cond_both (leb a b) _ _ (LastPlace bs n a b) (λ t. last-from (part bs (a, b)) a (leb-true a b t) refl) (λ t. nowhere-further a (leb-false a b t))
+  rfind_last a = cond_both (leb a b) _ _ (LastPlace bs n a b) (λ t. last_place-from (part bs (a, b)) a (leb-true a b t) refl) (λ t. nowhere-further a (leb-false a b t))
 
   -- and only their values do
   pub first-is : (a : ℕ) (r : Option ℕ) → FirstPlace bs n a b r → r ≡ find_of bs n a b

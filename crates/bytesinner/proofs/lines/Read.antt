@@ -8,7 +8,7 @@ use Rattle.searchers.specs.lineends.Lines.{cr, lf, line_end, LineEnd, pair, lone
 use Rattle.cuts.specs.Cuts.{between, cuts, all_marks}
 use Rattle.cuts.proofs.Greedy.{Greedy}
 use Rattle.cuts.proofs.Listed.{greedy_cuts}
-use Rattle.bytesinner.specs.lines.Lines.{filled, kept, lines_of, Bare, Reads, ended, line, last, bytes_of, LinesLaw}
+use Rattle.bytesinner.specs.lines.Lines.{filled, kept, Bare, Reads, ended, line, last, bytes_of, LinesLaw}
 use Rattle.bytesinner.specs.lines.Step.{filled-cons, starts}
 
 -- each of the three is a mark
@@ -76,7 +76,7 @@ whole_from bs {p} (line {a = a} {e = e} from clear end more) =
     ap (λ (xs : List ℕ). take (e - p) (drop p bs) ++ xs) (whole_from bs more ∙ ap (λ (j : ℕ). drop j bs) (sym z) ∙ sym (drop-drop (e - p) p bs)) ∙ take-append-drop (e - p) (drop p bs)
 whole_from bs {p} (last lt clear) = append-nil _ ∙ take_rest bs p
 
-pub lines-law : (bs : List ℕ) → LinesLaw bs (lines_of bs false) (lines_of bs true)
+pub lines-law : (bs : List ℕ) → LinesLaw bs
 lines-law bs =
     let read = reads-from bs 0 0 (cuts (negsuc 0) 0 0 (all_marks (line_end bs) (length bs))) (greedy_cuts (negsuc 0) (line_end-lawful bs) 0 0 (omega arith)) (λ some was then. omega arith) in
     record { reads = read; whole = whole_from bs read }

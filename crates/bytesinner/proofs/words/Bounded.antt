@@ -8,7 +8,7 @@ use Rattle.anystr.specs.Places.{stretch, stretches, Lists}
 use Rattle.anystr.specs.declared.place.Place.{Place}
 use Rattle.searchers.specs.Marks.{Span}
 use Rattle.cutters.specs.pieces.Sources.{Filled}
-use Rattle.bytesinner.specs.words.Words.{alone, to_end, from_start, words_of, rwords_of}
+use Rattle.bytesinner.specs.words.Words.{alone, to_end, from_start, first_words, last_words}
 
 pub alone-within : (total : ℕ) (bound : ℤ) → alone total bound ≤ total
 alone-within total (pos b) = omega arith
@@ -98,25 +98,25 @@ module _ {rs : List Span} {bound : ℤ} {total a m : ℕ} (w : Wanted rs bound t
   few = omega (arith, w.alone_is, alone-within total bound)
 
   module _ (len : ℕ) where
-    words_whole : total ≤ a → words_of rs len bound ≡ rs
+    words_whole : total ≤ a → first_words rs len bound ≡ rs
     words_whole le = cond-false (ltb (alone (length rs) bound) (length rs)) _ _ (le-ltb _ _ (omega (arith, stay, w.total_is)))
 
-    words_cut : a < total → words_of rs len bound ≡ to_end len (take (suc a) rs)
+    words_cut : a < total → first_words rs len bound ≡ to_end len (take (suc a) rs)
     words_cut lt = cond-true (ltb (alone (length rs) bound) (length rs)) _ _ (lt-ltb _ _ (omega (arith, stay, w.total_is))) ∙ ap (λ (k : ℕ). to_end len (take (suc k) rs)) stay
 
-  rwords_whole : total ≤ a → rwords_of rs bound ≡ rs
+  rwords_whole : total ≤ a → last_words rs bound ≡ rs
   rwords_whole le = cond-false (ltb (alone (length rs) bound) (length rs)) _ _ (le-ltb _ _ (omega (arith, stay, w.total_is)))
 
-  rwords_cut : a < total → rwords_of rs bound ≡ from_start (drop (length rs - suc a) rs)
+  rwords_cut : a < total → last_words rs bound ≡ from_start (drop (length rs - suc a) rs)
   rwords_cut lt = cond-true (ltb (alone (length rs) bound) (length rs)) _ _ (lt-ltb _ _ (omega (arith, stay, w.total_is))) ∙ ap (λ (k : ℕ). from_start (drop (length rs - suc k) rs)) stay
 
-  pub words_length : (len : ℕ) → length (words_of rs len bound) ≡ m
+  pub words_length : (len : ℕ) → length (first_words rs len bound) ≡ m
   words_length len = ⊎_elim
       (λ lt. ap length (words_cut len lt) ∙ length-to_end len (take (suc a) rs) ∙ length-take (suc a) rs ∙ omega (arith, w.is, w.total_is))
       (λ le. ap length (words_whole len le) ∙ omega (arith, w.is, w.total_is, few))
       (cases_lt a total)
 
-  pub rwords_length : length (rwords_of rs bound) ≡ m
+  pub rwords_length : length (last_words rs bound) ≡ m
   rwords_length = ⊎_elim
       (λ lt. ap length (rwords_cut lt) ∙ length-from_start (drop (length rs - suc a) rs) ∙ length-drop (length rs - suc a) rs ∙ omega (arith, w.is, w.total_is))
       (λ le. ap length (rwords_whole le) ∙ omega (arith, w.is, w.total_is, few))
@@ -134,10 +134,10 @@ module _ {rs : List Span} {bound : ℤ} {total a m : ℕ} (w : Wanted rs bound t
         let c = put rs n list list' l (subst (λ (xs : List Span). Filled xs list list') all f) in
         lists ps list list' n (sym l ∙ ap length (sym are)) (omega (arith, room.is, room.fits)) (c.written ∙ sym are) c.others
 
-    pub words_put : (len : ℕ) {list' : List Place} → total ≤ a → Filled (take n rs) list list' → Lists (Ok (words_of rs len bound)) list list' (Ok n)
+    pub words_put : (len : ℕ) {list' : List Place} → total ≤ a → Filled (take n rs) list list' → Lists (Ok (first_words rs len bound)) list list' (Ok n)
     words_put len le f = all_put _ rs le (words_whole len le) refl f
 
-    pub rwords_put : {list' : List Place} → total ≤ a → Filled (take n (drop (total - n) rs)) list list' → Lists (Ok (rwords_of rs bound)) list list' (Ok n)
+    pub rwords_put : {list' : List Place} → total ≤ a → Filled (take n (drop (total - n) rs)) list list' → Lists (Ok (last_words rs bound)) list list' (Ok n)
     rwords_put le f = let z : total - n ≡ 0 = omega (arith, n_is) in all_put _ _ le (rwords_whole le) (ap (λ (k : ℕ). drop k rs) z) f
 
     -- some of them, and one place more
@@ -145,20 +145,20 @@ module _ {rs : List Span} {bound : ℤ} {total a m : ℕ} (w : Wanted rs bound t
       one_more : n ≡ suc a
       one_more = omega (arith, n_is)
 
-      to_len : (len : ℕ) {list' : List Place} → Filled (take n rs) list list' → Lists (Ok (words_of rs len bound)) list (set list' a (record { start = (get_or list' a none).start; end = len })) (Ok n)
+      to_len : (len : ℕ) {list' : List Place} → Filled (take n rs) list list' → Lists (Ok (first_words rs len bound)) list (set list' a (record { start = (get_or list' a none).start; end = len })) (Ok n)
       to_len len {list'} f =
           let d = none in
           let last : Place = record { start = (get_or list' a d).start; end = len } in
           let c : Put (take n rs) n list list' = put (take n rs) n list list' (length-take n rs ∙ omega (arith, n_is, w.total_is)) f in
           let set_last : stretches (take (suc a) (set list' a last)) ≡ to_end len (stretches (take (suc a) list')) = set_end list' a len d (omega (arith, c.within, one_more)) in
-          lists (words_of rs len bound) list (set list' a last) n (room.is ∙ sym (words_length len)) (omega (arith, room.is, room.fits))
+          lists (first_words rs len bound) list (set list' a last) n (room.is ∙ sym (words_length len)) (omega (arith, room.is, room.fits))
           (ap (λ (k : ℕ). stretches (take k (set list' a last))) one_more ∙ set_last ∙ ap (λ (k : ℕ). to_end len (stretches (take k list'))) (sym one_more) ∙ ap (to_end len) (c.written ∙ ap (λ (k : ℕ). take k rs) one_more) ∙ sym (words_cut len lt))
           (drop-set-lt n list' a last (omega (arith, one_more)) ∙ c.others)
 
-      pub words_put_cut : (end len : ℕ) {list' : List Place} → end ≡ len → Filled (take n rs) list list' → Lists (Ok (words_of rs len bound)) list (set list' a (record { start = (get_or list' a none).start; end = end })) (Ok n)
-      words_put_cut end len {list'} is f = subst (λ (k : ℕ). Lists (Ok (words_of rs len bound)) list (set list' a (record { start = (get_or list' a none).start; end = k })) (Ok n)) (sym is) (to_len len f)
+      pub words_put_cut : (end len : ℕ) {list' : List Place} → end ≡ len → Filled (take n rs) list list' → Lists (Ok (first_words rs len bound)) list (set list' a (record { start = (get_or list' a none).start; end = end })) (Ok n)
+      words_put_cut end len {list'} is f = subst (λ (k : ℕ). Lists (Ok (first_words rs len bound)) list (set list' a (record { start = (get_or list' a none).start; end = k })) (Ok n)) (sym is) (to_len len f)
 
-      pub rwords_put_cut : {list' : List Place} → Filled (take n (drop (total - n) rs)) list list' → Lists (Ok (rwords_of rs bound)) list (set list' 0 (record { start = 0; end = (get_or list' 0 none).end })) (Ok n)
+      pub rwords_put_cut : {list' : List Place} → Filled (take n (drop (total - n) rs)) list list' → Lists (Ok (last_words rs bound)) list (set list' 0 (record { start = 0; end = (get_or list' 0 none).end })) (Ok n)
       rwords_put_cut {list'} f =
           let d = none in
           let first : Place = record { start = 0; end = (get_or list' 0 d).end } in
@@ -167,6 +167,6 @@ module _ {rs : List Span} {bound : ℤ} {total a m : ℕ} (w : Wanted rs bound t
           let last_runs : take n (drop (total - n) rs) ≡ drop (length rs - suc a) rs = ap (take n) which ∙ take_all n _ (omega (arith, l)) in
           let c = put (drop (length rs - suc a) rs) n list list' l (subst (λ (ps : List Span). Filled ps list list') last_runs f) in
           let set_first : stretches (take (suc a) (set list' 0 first)) ≡ from_start (stretches (take (suc a) list')) = set_start list' a d (omega (arith, c.within, one_more)) in
-          lists (rwords_of rs bound) list (set list' 0 first) n (room.is ∙ sym rwords_length) (omega (arith, room.is, room.fits))
+          lists (last_words rs bound) list (set list' 0 first) n (room.is ∙ sym rwords_length) (omega (arith, room.is, room.fits))
           (ap (λ (k : ℕ). stretches (take k (set list' 0 first))) one_more ∙ set_first ∙ ap (λ (k : ℕ). from_start (stretches (take k list'))) (sym one_more) ∙ ap from_start c.written ∙ sym (rwords_cut lt))
           (drop-set-lt n list' 0 first (omega (arith, one_more)) ∙ c.others)

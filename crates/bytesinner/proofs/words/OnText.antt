@@ -78,7 +78,7 @@ module _ (es : List (List ℕ)) where
   runs-cut apart q h = run-cut apart q.0 q.1 ((all_runs (concat es)).each q h)
 
   module _ (bound : ℤ) (apart : AsciiApart es) where
-    pub words-cut : Cuttable es (words_of (runs (concat es)) (length (concat es)) bound)
+    pub words-cut : Cuttable es (words_of (concat es) bound)
     words-cut =
         let rs = runs (concat es) in
         let n = alone (length rs) bound in
@@ -86,7 +86,7 @@ module _ (es : List (List ℕ)) where
         (λ _. to_end-cut _ (taken (suc n) rs (runs-cut apart)))
         (λ _. runs-cut apart)
 
-    pub rwords-cut : Cuttable es (rwords_of (runs (concat es)) bound)
+    pub rwords-cut : Cuttable es (rwords_of (concat es) bound)
     rwords-cut =
         let rs = runs (concat es) in
         let n = alone (length rs) bound in

@@ -1,35 +1,31 @@
 -- Where a needle stands between two offsets: the first place and the last. Assumes nothing.
-use Rattle.std.specs.Prelude.{ℕ, suc, ◌+◌, ◌≤◌, cond, List, [], ◌∷◌, length, Some, None, Option, nat_le}
+use Rattle.std.specs.Prelude.{ℕ, suc, ◌+◌, ◌≤◌, if◌then◌else◌, List, [], ◌∷◌, length, Some, None, Option, nat_le}
+use Rattle.std.specs.Option.{option_or}
 use Rattle.anystr.specs.Elements.{Occurs}
 use Rattle.anystr.specs.Places.{part}
 use Rattle.searchers.specs.substring.Occurrences.{begins_with}
 
--- the place, if the bytes there begin with the needle
-abbrev pub here : List ℕ → List ℕ → ℕ → Option ℕ
-here n bs p = cond (begins_with n bs) (Some p) None
-
--- the place, or else another
-abbrev pub or_else : Option ℕ → Option ℕ → Option ℕ
-or_else None other = other
-or_else (Some p) other = Some p
+-- the place p, if the bytes there begin with the needle
+abbrev pub place_here : List ℕ → List ℕ → ℕ → Option ℕ
+place_here n bs p = if begins_with n bs then Some p else None
 
 -- the first place of the needle in bytes that begin at p
-abbrev pub first : List ℕ → List ℕ → ℕ → Option ℕ
-first n [] p = here n [] p
-first n (b ∷ bs) p = or_else (here n (b ∷ bs) p) (first n bs (suc p))
+abbrev pub first_place : List ℕ → List ℕ → ℕ → Option ℕ
+first_place n [] p = place_here n [] p
+first_place n (b ∷ bs) p = option_or (place_here n (b ∷ bs) p) (first_place n bs (suc p))
 
 -- the last place of the needle in bytes that begin at p
-abbrev pub last : List ℕ → List ℕ → ℕ → Option ℕ
-last n [] p = here n [] p
-last n (b ∷ bs) p = or_else (last n bs (suc p)) (here n (b ∷ bs) p)
+abbrev pub last_place : List ℕ → List ℕ → ℕ → Option ℕ
+last_place n [] p = place_here n [] p
+last_place n (b ∷ bs) p = option_or (last_place n bs (suc p)) (place_here n (b ∷ bs) p)
 
 -- find: the first place from a to b
 abbrev pub find_of : List ℕ → List ℕ → ℕ → ℕ → Option ℕ
-find_of bs n a b = cond (nat_le a b) (first n (part bs (a, b)) a) None
+find_of bs n a b = if nat_le a b then first_place n (part bs (a, b)) a else None
 
 -- rfind: the last place from a to b
 abbrev pub rfind_of : List ℕ → List ℕ → ℕ → ℕ → Option ℕ
-rfind_of bs n a b = cond (nat_le a b) (last n (part bs (a, b)) a) None
+rfind_of bs n a b = if nat_le a b then last_place n (part bs (a, b)) a else None
 
 -- the needle stands at p, from a on and up to b
 pub record Stands (bs n : List ℕ) (a b p : ℕ) : Type 0 where
@@ -39,7 +35,7 @@ pub record Stands (bs n : List ℕ) (a b p : ℕ) : Type 0 where
 
 -- the needle stands at no place
 abbrev pub Nowhere : List ℕ → List ℕ → ℕ → ℕ → Type 0
-Nowhere bs n a b = (p : ℕ) → Stands bs n a b p → ⊥
+Nowhere bs n a b = (p : ℕ) → ¬ Stands bs n a b p
 
 -- the least offset at which the needle stands; none exactly when there is none
 abbrev pub FirstPlace : List ℕ → List ℕ → ℕ → ℕ → Option ℕ → Type 0

@@ -1,5 +1,6 @@
 -- Parts of a text, joined with another between them. Assumes nothing.
-use Rattle.std.specs.Prelude.{◌≡◌, ℕ, suc, ◌+◌, ◌-◌, ◌*◌, ◌<◌, Bool, cond, ◌&&◌, List, [], ◌∷◌, map, length, Some, None, Ok, Err, Option, Result, nat_le, nat_lt, slice_index_or}
+use Rattle.std.specs.Prelude.{◌≡◌, ℕ, suc, ◌+◌, ◌-◌, ◌*◌, ◌<◌, Bool, if◌then◌else◌, ◌&&◌, List, [], ◌∷◌, map, length}
+use Rattle.std.specs.Prelude.{Some, None, Ok, Err, Option, Result, nat_le, nat_lt, slice_index_or}
 use Rattle.std.specs.List.{concat}
 use Rattle.anystr.specs.Elements.{Cut, on_boundary}
 use Rattle.anystr.specs.Limits.{most_bytes}
@@ -16,7 +17,7 @@ can_cut es p = nat_le p.0 p.1 && (on_boundary es p.0 && on_boundary es p.1)
 -- the index of the first place that does not, where the first of these has the index `at`
 abbrev pub first_bad : List (List ℕ) → ℕ → List (ℕ × ℕ) → Option ℕ
 first_bad es at [] = None
-first_bad es at (p ∷ ps) = cond (can_cut es p) (first_bad es (suc at) ps) (Some at)
+first_bad es at (p ∷ ps) = if can_cut es p then first_bad es (suc at) ps else Some at
 
 -- the answer, unless a place is bad
 abbrev pub unless_bad : {X : Type 0} → Option ℕ → X → Result X (ℕ × ℕ)
@@ -26,7 +27,8 @@ unless_bad (Some at) x = Err (12, at)
 -- join: its bytes, or its refusal
 abbrev pub join_of : List ℕ → List (List ℕ) → List (ℕ × ℕ) → Result (List ℕ) (ℕ × ℕ)
 join_of sep es ps =
-    cond (nat_lt most_places (length ps)) (Err (6, 0)) (unless_bad (first_bad es 0 ps) (join_parts sep (concat es) ps))
+    if nat_lt most_places (length ps) then Err (6, 0)
+    else unless_bad (first_bad es 0 ps) (join_parts sep (concat es) ps)
 
 -- a place that can be cut out of the text
 abbrev pub Good : List (List ℕ) → ℕ × ℕ → Type 0
@@ -35,7 +37,7 @@ Good es p = Cut es p.0 p.1
 -- the place of index i cannot be cut out, and each before it can
 pub record BadAt (es : List (List ℕ)) (ps : List (ℕ × ℕ)) (i : ℕ) : Type 0 where
   pub within : i < length ps
-  pub bad : Good es (slice_index_or ps i (0, 0)) → ⊥
+  pub bad : ¬ Good es (slice_index_or ps i (0, 0))
   pub before : (k : ℕ) → k < i → Good es (slice_index_or ps k (0, 0))
 
 -- the first bad place, if there is one

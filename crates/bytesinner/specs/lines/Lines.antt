@@ -1,5 +1,5 @@
 -- The lines of a text, without and with their ends. Assumes nothing.
-use Rattle.std.specs.Prelude.{◌≡◌, ℕ, ◌<◌, ◌≤◌, Bool, cond, if◌then◌else◌, List, [], ◌∷◌, ◌++◌, length, negsuc, None, Option, ◌≢◌, nat_lt, slice_index}
+use Rattle.std.specs.Prelude.{◌≡◌, ℕ, ◌<◌, ◌≤◌, Bool, true, false, cond, if◌then◌else◌, List, [], ◌∷◌, ◌++◌, length, negsuc, None, Option, ◌≢◌, nat_lt, slice_index}
 use Rattle.std.specs.Option.{option_map}
 use Rattle.anystr.specs.Places.{part}
 use Rattle.searchers.specs.Marks.{Marks, Span}
@@ -63,6 +63,6 @@ bytes_of bytes [] = []
 bytes_of bytes (p ∷ ps) = part bytes p ++ bytes_of bytes ps
 
 -- the law of the lines: the text is read line by line, and the lines with their ends make up its bytes
-pub record LinesLaw (bytes : List ℕ) (without with-ends : List Span) : Type 0 where
-  pub reads : Reads bytes 0 without with-ends
-  pub whole : bytes_of bytes with-ends ≡ bytes
+pub record LinesLaw (bytes : List ℕ) : Type 0 where
+  pub reads : Reads bytes 0 (lines_of bytes false) (lines_of bytes true)
+  pub whole : bytes_of bytes (lines_of bytes true) ≡ bytes

@@ -1,5 +1,5 @@
 -- Words: the runs of a text between whitespace, and the lists that a bound makes of them. Assumes nothing.
-use Rattle.std.specs.Prelude.{◌≡◌, ℕ, suc, ◌-◌, ◌<◌, ◌≤◌, min, Bool, true, false, cond, List, [], ◌∷◌, ◌++◌, length, take, drop, ℤ, pos, negsuc, Some, None, Option, nat_lt, slice_index}
+use Rattle.std.specs.Prelude.{◌≡◌, ℕ, suc, ◌-◌, ◌<◌, ◌≤◌, min, Bool, true, false, if◌then◌else◌, List, [], ◌∷◌, ◌++◌, length, take, drop, ℤ, pos, negsuc, Some, None, Option, nat_lt, slice_index}
 use Rattle.std.specs.List.{prefix_len}
 use Rattle.std.specs.Bool.{beq}
 use Rattle.searchers.specs.Marks.{Span}
@@ -20,12 +20,14 @@ stretch_len bytes spaces = prefix_len (λ b. beq spaces (space b)) bytes
 
 -- a stretch alone, or nothing where it is empty
 abbrev pub run : ℕ → ℕ → List Span
-run a e = cond (nat_lt a e) ((a, e) ∷ []) []
+run a e = if nat_lt a e then (a, e) ∷ [] else []
 
--- the runs that end at `place` or after it, where these bytes stand from `place` on and no whitespace stands from `from` to it
+-- the runs that end at `place` or after it, where these bytes stand from `place` on, and no whitespace stands from
+-- `from` to `place`
 abbrev pub runs_from : ℕ → ℕ → List ℕ → List Span
 runs_from from place [] = run from place
-runs_from from place (b ∷ bs) = cond (space b) (run from place ++ runs_from (suc place) (suc place) bs) (runs_from from (suc place) bs)
+runs_from from place (b ∷ bs) =
+    if space b then run from place ++ runs_from (suc place) (suc place) bs else runs_from from (suc place) bs
 
 -- the runs of a text
 abbrev pub runs : List ℕ → List Span
@@ -44,7 +46,8 @@ first_run place (r ∷ rs) = (Some r, r.1)
 abbrev pub next_run : List ℕ → ℕ → Option Span × ℕ
 next_run bytes place = first_run place (runs_left bytes place)
 
--- how many of the runs stay by themselves: as many as the bound, and all where they are not more; a negative bound is none
+-- how many of the runs stay by themselves: as many as the bound, and all where they are not more; a negative bound
+-- is none
 abbrev pub alone : ℕ → ℤ → ℕ
 alone total (pos bound) = min total bound
 alone total (negsuc _) = total
@@ -60,13 +63,25 @@ abbrev pub from_start : List Span → List Span
 from_start [] = []
 from_start (r ∷ rs) = (0, r.1) ∷ rs
 
--- the runs; where more than the bound, the first of them and one more, which goes on to the end of the text
-abbrev pub words_of : List Span → ℕ → ℤ → List Span
-words_of rs len bound = cond (nat_lt (alone (length rs) bound) (length rs)) (to_end len (take (suc (alone (length rs) bound)) rs)) rs
+-- the runs of `len` bytes; where more than the bound, the first of them and one more, which goes on to their end
+abbrev pub first_words : List Span → ℕ → ℤ → List Span
+first_words rs len bound =
+    let n = alone (length rs) bound in
+    if nat_lt n (length rs) then to_end len (take (suc n) rs) else rs
 
 -- the runs; where more than the bound, the last of them and one more, which begins at the start of the text
-abbrev pub rwords_of : List Span → ℤ → List Span
-rwords_of rs bound = cond (nat_lt (alone (length rs) bound) (length rs)) (from_start (drop (length rs - suc (alone (length rs) bound)) rs)) rs
+abbrev pub last_words : List Span → ℤ → List Span
+last_words rs bound =
+    let n = alone (length rs) bound in
+    if nat_lt n (length rs) then from_start (drop (length rs - suc n) rs) else rs
+
+-- the words of a text from its front, as a bound lets them be split
+abbrev pub words_of : List ℕ → ℤ → List Span
+words_of bytes bound = first_words (runs bytes) (length bytes) bound
+
+-- the same from its end
+abbrev pub rwords_of : List ℕ → ℤ → List Span
+rwords_of bytes bound = last_words (runs bytes) bound
 
 -- a run: a longest stretch of one byte or more without whitespace
 pub record Run (bytes : List ℕ) (a e : ℕ) : Type 0 where

@@ -1,7 +1,8 @@
 // The first and the last place of a needle.
-ghost use Rattle.std.specs.Prelude.{◌≡◌, length};
+ghost use Rattle.std.specs.Prelude.{◌≡◌};
+ghost use Rattle.anystr.specs.Bytes.{byte_list};
 ghost use Rattle.anystr.specs.Refusals.{coded};
-ghost use Rattle.bytesinner.specs.finds.Asked.{asked, Keeps};
+ghost use Rattle.bytesinner.specs.finds.Asked.{answer_of, Keeps};
 ghost use Rattle.bytesinner.specs.finds.Places.{find_of, rfind_of, FirstPlace, LastPlace};
 
 use super::options::ByteInnerFindOptions;
@@ -15,7 +16,7 @@ use searchers::substring::Substring;
 impl<'a> Stretch<'a> {
     // The first place of the needle.
     fn first_place(&self, needle: Bytes<'_>) -> Option<usize>
-        ensures { FirstPlace self.now.text.bytes.now needle.entry.bytes.now
+        ensures { FirstPlace (byte_list self.now.text) (byte_list needle.entry)
             self.now.range.start self.now.range.end result }
     {
         let part = self.part()?;
@@ -26,10 +27,10 @@ impl<'a> Stretch<'a> {
         Some(self.range.start + mark.start)
     }
 
-    // The last place of the needle. Not one function with the first: it asks the searcher from the end, and finds an
-    // empty needle there.
+    // The last place of the needle. Not one function with the first: it asks the searcher from the
+    // end, and finds an empty needle there.
     fn last_place(&self, needle: Bytes<'_>) -> Option<usize>
-        ensures { LastPlace self.now.text.bytes.now needle.entry.bytes.now
+        ensures { LastPlace (byte_list self.now.text) (byte_list needle.entry)
             self.now.range.start self.now.range.end result }
     {
         let part = self.part()?;
@@ -41,25 +42,22 @@ impl<'a> Stretch<'a> {
     }
 }
 
-/// The least offset in the text, in bytes, at which the sub stands, from the start that is meant to the end; none where
-/// there is none. Refused where the sub is a number that is no byte (2) or has more bytes than a text may have (6).
+/// The least offset in the text, in bytes, at which the sub stands, from the start that is meant to
+/// the end; none where there is none. Refused where the sub is a number that is no byte (2) or has
+/// more bytes than a text may have (6).
 pub fn find(text: &Bytes<'_>, options: ByteInnerFindOptions<'_>) -> Result<Option<usize>, Refusal>
-    ensures value { coded result
-        ≡ asked (find_of text.now.bytes.now) options.entry (length text.now.bytes.now) }
-    ensures law { Keeps (FirstPlace text.now.bytes.now) options.entry
-        (length text.now.bytes.now) result }
+    ensures value { coded result ≡ answer_of find_of (byte_list text.now) options.entry }
+    ensures law { Keeps FirstPlace (byte_list text.now) options.entry result }
 {
     options.ask(text, |stretch, needle| stretch.first_place(needle))
 }
 
-/// The greatest offset in the text, in bytes, at which the sub stands, from the start that is meant to the end; none
-/// where there is none. Refused where the sub is a number that is no byte (2) or has more bytes than a text may have
-/// (6).
+/// The greatest offset in the text, in bytes, at which the sub stands, from the start that is meant
+/// to the end; none where there is none. Refused where the sub is a number that is no byte (2) or
+/// has more bytes than a text may have (6).
 pub fn rfind(text: &Bytes<'_>, options: ByteInnerFindOptions<'_>) -> Result<Option<usize>, Refusal>
-    ensures value { coded result
-        ≡ asked (rfind_of text.now.bytes.now) options.entry (length text.now.bytes.now) }
-    ensures law { Keeps (LastPlace text.now.bytes.now) options.entry
-        (length text.now.bytes.now) result }
+    ensures value { coded result ≡ answer_of rfind_of (byte_list text.now) options.entry }
+    ensures law { Keeps LastPlace (byte_list text.now) options.entry result }
 {
     options.ask(text, |stretch, needle| stretch.last_place(needle))
 }

@@ -1,5 +1,6 @@
 // The part of a text in which a needle is sought.
 ghost use Rattle.std.specs.Prelude.{◌≡◌, ◌<◌, ◌≤◌, length, MatchOption, IfSome};
+ghost use Rattle.anystr.specs.Bytes.{byte_list};
 ghost use Rattle.anystr.specs.Places.{part};
 
 use anystr::anystr::AnyStr;
@@ -11,7 +12,7 @@ use std::ops::Range;
 pub(super) struct Stretch<'a> {
     pub(super) text: Bytes<'a>,
     pub(super) range: Range<usize>,
-    ghost within: { range.end ≤ length text.bytes.now },
+    ghost within: { range.end ≤ length (byte_list text) },
 }
 
 impl<'a> Stretch<'a> {
@@ -19,8 +20,8 @@ impl<'a> Stretch<'a> {
     pub(super) fn part(&self) -> Option<Bytes<'a>>
         ensures order { MatchOption result (self.now.range.end < self.now.range.start)
             (λ _. self.now.range.start ≤ self.now.range.end) }
-        ensures bytes { IfSome result (λ p. p.bytes.now
-            ≡ part self.now.text.bytes.now (self.now.range.start, self.now.range.end)) }
+        ensures bytes { IfSome result (λ p. byte_list p
+            ≡ part (byte_list self.now.text) (self.now.range.start, self.now.range.end)) }
     {
         if self.range.start > self.range.end {
             return None;

@@ -11,7 +11,8 @@ use anystr::refusal::Refusal;
 use trays::container::AnyStrContainer;
 
 impl<'a, S: AnyStr> Parts<'a, S> {
-    // The bytes that they take joined; refused, with its index, at the first place that is no part of the text.
+    // The bytes that they take joined; refused, with its index, at the first place that is no part
+    // of the text.
     pub(super) fn measure(&self) -> Result<u64, Refusal>
         ensures { coded result ≡ unless_bad (bad_part self.now) (length (joined self.now)) }
     {

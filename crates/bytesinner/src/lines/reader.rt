@@ -65,8 +65,11 @@ impl<S: AnyStr, F: Searcher<S> + Drop> Pieces for Lines<S, F> {
 
     ghost asked = { λ _. tt };
 
-    ghost gives = { λ l. next-yields l (F.Searcher.lawful l.cutter.searcher l.cutter.text) };
+    ghost gives = { λ l r m. next-yields l m r
+        (F.lawful l.cutter.searcher l.cutter.text) };
 
-    ghost counts = { λ l. counts_down l
-        (F.Searcher.lawful l.cutter.searcher l.cutter.text) (S.AnyStr.few l.cutter.text) };
+    ghost counts = { λ l. record {
+      all = refl;
+      few = left-few l (F.lawful l.cutter.searcher l.cutter.text) (S.few l.cutter.text);
+    } };
 }

@@ -10,11 +10,11 @@ use std::alloc::AllocError;
 
 pub mod calls;
 
-/// A text that is cut at the marks of a searcher from the end, while fewer cuts are made than the bound.
-/// Its place, down to which it has cut, is a boundary of the text, and the rest is the text before it. A spent
-/// cutter has given its last piece.
-// A type beside `Cutter`, with its progress: it asks another sort of searcher by another method, and each piece lies
-// before the place.
+/// A text that is cut at the marks of a searcher from the end, while fewer cuts are made than the
+/// bound. Its place, down to which it has cut, is a boundary of the text, and the rest is the text
+/// before it. A spent cutter has given its last piece, and its place is 0.
+// A type beside `Cutter`, with its progress: it asks another sort of searcher by another method,
+// and each piece lies before the place.
 #[derive(Drop)]
 pub struct BackCutter<S: AnyStr, F: ReverseSearcher<S>> {
     text: S,
@@ -25,7 +25,8 @@ pub struct BackCutter<S: AnyStr, F: ReverseSearcher<S>> {
     ghost few: { progress.made + progress.place ≤ most_bytes },
 }
 
-// Not derived: Rattle derives no clone of a struct with a ghost field whose parameters may be no copies.
+// Not derived: Rattle derives no clone of a struct with a ghost field whose parameters may be no
+// copies.
 impl<S: AnyStr, F: ReverseSearcher<S> + Copy> Clone for BackCutter<S, F> {
     ghost is_clone = { λ c d. d ≡ c };
 

@@ -1,6 +1,6 @@
 // Splitting a text at a separator from the front.
-ghost use Rattle.std.specs.List.{concat};
 ghost use Rattle.anystr.specs.Places.{Lists};
+ghost use Rattle.anystr.specs.Texts.{bytes_of};
 ghost use Rattle.bytesinner.specs.splits.Separated.{split_of, SplitFront, Restore};
 ghost use Rattle.bytesinner.specs.Written.{OfWritten, Cuttable};
 
@@ -11,23 +11,21 @@ use cutters::cutter::Cutter;
 use cutters::pieces::fill::list;
 use searchers::substring::Substring;
 
-/// Lists the places in bytes between the separators that are cut from the front, at most `maxsplit` of them; a
-/// negative `maxsplit` is no bound. An empty separator is refused (1), and then a list with too few entries (7, with
-/// the number of places).
+/// Lists the places between the separators that are cut from the front, as starts and ends in
+/// bytes, and gives their number: at most `maxsplit` separators are cut, and a negative `maxsplit`
+/// is no bound. Refused where the separator is empty (1), and else where the list has too few
+/// entries (7, with the number of places); the list is then as it was.
 pub fn split_str<S: AnyStr>(
     text: &S,
     sep: &S,
     maxsplit: i64,
     places: &mut [Place],
 ) -> Result<usize, Refusal>
-    ensures list { Lists
-        (split_of (concat (S.elements text.now)) (concat (S.elements sep.now)) maxsplit)
-        places.old places.new result }
-    ensures rule { OfWritten
-        (SplitFront (concat (S.elements text.now)) (concat (S.elements sep.now)) maxsplit)
-        places.new result }
-    ensures restores { OfWritten
-        (Restore (concat (S.elements text.now)) (concat (S.elements sep.now)))
+    ensures list { Lists (split_of (bytes_of S.AnyStr text.now) (bytes_of S.AnyStr sep.now)
+        maxsplit) places.old places.new result }
+    ensures rule { OfWritten (SplitFront (bytes_of S.AnyStr text.now) (bytes_of S.AnyStr sep.now)
+        maxsplit) places.new result }
+    ensures restores { OfWritten (Restore (bytes_of S.AnyStr text.now) (bytes_of S.AnyStr sep.now))
         places.new result }
     ensures cut { OfWritten (Cuttable (S.elements text.now)) places.new result }
 {

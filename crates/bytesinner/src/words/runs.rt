@@ -72,5 +72,8 @@ impl<S: AnyStr> Pieces for Runs<S> {
 
     ghost gives = { next-yields S.AnyStr };
 
-    ghost counts = { λ s. counts_down S.AnyStr s (S.AnyStr.few s.text) };
+    ghost counts = { λ s. record {
+      all = refl;
+      few = left-few s.place (bytes S.AnyStr s) (S.few s.text);
+    } };
 }

@@ -1,11 +1,12 @@
 // Lists of the words of a text.
 ghost use Rattle.std.specs.Prelude.{◌≡◌, ◌+◌, suc, min, ◌≤◌, length, Ok};
-ghost use Rattle.std.specs.List.{concat};
 ghost use Rattle.anystr.specs.Limits.{most_bytes};
 ghost use Rattle.anystr.specs.Places.{Lists};
+ghost use Rattle.anystr.specs.Texts.{bytes_of};
 ghost use Rattle.searchers.specs.Ascii.{AsciiApart};
 ghost use Rattle.bytesinner.specs.Written.{OfWritten, Cuttable};
-ghost use Rattle.bytesinner.specs.words.Words.{runs, alone as alone_of, words_of, rwords_of, AllRuns};
+ghost use Rattle.bytesinner.specs.words.Words.{runs, alone as alone_of, AllRuns};
+ghost use Rattle.bytesinner.specs.words.Words.{words_of, rwords_of};
 
 use super::runs::Runs;
 use anystr::anystr::AnyStr;
@@ -27,7 +28,7 @@ struct Shares {
 impl Shares {
     // At most `maxsplit` runs have a place alone; a negative bound is none.
     fn new<S: AnyStr>(text: &S, maxsplit: i64) -> Shares
-        ensures total { result.total ≡ length (runs (concat (S.elements text.now))) }
+        ensures total { result.total ≡ length (runs (bytes_of S.AnyStr text.now)) }
         ensures alone { result.alone ≡ alone_of result.total maxsplit }
     {
         let total = Runs::new(*text).count();
@@ -43,18 +44,21 @@ impl Shares {
     }
 }
 
-/// The words of a text, as places in bytes: its runs without whitespace. Where there are more than a `maxsplit` of 0 or
-/// above, the place after the first `maxsplit` goes on to the end of the text. Each place can be cut out of a text in
-/// which bytes below 128 stand apart. Refused where the list has too few entries.
+/// Lists the words of a text, its runs without whitespace, as starts and ends in bytes, and gives
+/// their number. Where there are more runs than a `maxsplit` of 0 or above, the place after the
+/// first `maxsplit` goes on to the end of the text. Each place can be cut out of a text in which
+/// bytes below 128 stand apart. Refused where the list has too few entries (7, with the number of
+/// places), and then the list is as it was.
 pub fn split_whitespace<S: AnyStr>(
     text: &S,
     maxsplit: i64,
     places: &mut [Place],
 ) -> Result<usize, Refusal>
-    ensures value { Lists (Ok (words_of (runs (concat (S.AnyStr.elements text.now))) (length (concat (S.AnyStr.elements text.now))) maxsplit)) places.old places.new result }
-    ensures law { AllRuns (concat (S.AnyStr.elements text.now)) (runs (concat (S.AnyStr.elements text.now))) }
-    ensures cut { AsciiApart (S.AnyStr.elements text.now)
-        → OfWritten (Cuttable (S.AnyStr.elements text.now)) places.new result }
+    ensures value { Lists (Ok (words_of (bytes_of S.AnyStr text.now) maxsplit))
+        places.old places.new result }
+    ensures law { AllRuns (bytes_of S.AnyStr text.now) (runs (bytes_of S.AnyStr text.now)) }
+    ensures cut { AsciiApart (S.elements text.now)
+        → OfWritten (Cuttable (S.elements text.now)) places.new result }
 {
     let shares = Shares::new(text, maxsplit);
     let n = room(shares.places(), places)?;
@@ -65,18 +69,20 @@ pub fn split_whitespace<S: AnyStr>(
     Ok(n)
 }
 
-/// The same from the end, which skips runs and widens the first place: where there are more runs than a `maxsplit` of 0
-/// or above, the place before the last `maxsplit` begins at the start of the text. Refused where the list has too few
-/// entries.
+/// Lists the words of a text as `split_whitespace` does, from the end: where there are more runs
+/// than a `maxsplit` of 0 or above, the place before the last `maxsplit` begins at the start of the
+/// text. Refused where the list has too few entries (7, with the number of places), and then the
+/// list is as it was.
 pub fn rsplit_whitespace<S: AnyStr>(
     text: &S,
     maxsplit: i64,
     places: &mut [Place],
 ) -> Result<usize, Refusal>
-    ensures value { Lists (Ok (rwords_of (runs (concat (S.AnyStr.elements text.now))) maxsplit)) places.old places.new result }
-    ensures law { AllRuns (concat (S.AnyStr.elements text.now)) (runs (concat (S.AnyStr.elements text.now))) }
-    ensures cut { AsciiApart (S.AnyStr.elements text.now)
-        → OfWritten (Cuttable (S.AnyStr.elements text.now)) places.new result }
+    ensures value { Lists (Ok (rwords_of (bytes_of S.AnyStr text.now) maxsplit))
+        places.old places.new result }
+    ensures law { AllRuns (bytes_of S.AnyStr text.now) (runs (bytes_of S.AnyStr text.now)) }
+    ensures cut { AsciiApart (S.elements text.now)
+        → OfWritten (Cuttable (S.elements text.now)) places.new result }
 {
     let shares = Shares::new(text, maxsplit);
     let n = room(shares.places(), places)?;

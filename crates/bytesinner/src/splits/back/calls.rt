@@ -16,8 +16,8 @@ use searchers::mark::Mark;
 use searchers::searcher::{ReverseSearcher, Searcher};
 
 impl<S: AnyStr, F: ReverseSearcher<S>> BackCutter<S, F> {
-    /// A cutter from the end on the whole text, with no cut made. `bound` is the most cuts that it makes; a negative
-    /// one is no bound.
+    /// A cutter from the end on the whole text, with no cut made. `bound` is the most cuts that it
+    /// makes; a negative one is no bound.
     pub fn open(text: S, searcher: F, bound: i64) -> BackCutter<S, F>
         ensures on { IsOn text searcher bound result }
         ensures state { state result ≡ at_opening }
@@ -76,8 +76,10 @@ impl<S: AnyStr, F: ReverseSearcher<S> + Drop> Pieces for BackCutter<S, F> {
 
     ghost asked = { λ _. tt };
 
-    ghost gives = { λ c. next-yields c (F.Searcher.lawful c.searcher c.text) };
+    ghost gives = { λ c r d. next-yields c d r (F.Searcher.lawful c.searcher c.text) };
 
-    ghost counts = { λ c. counts_down c
-        (F.Searcher.lawful c.searcher c.text) (S.AnyStr.few c.text) };
+    ghost counts = { λ c. record {
+      all = refl;
+      few = back_few (opening c) (F.Searcher.lawful c.searcher c.text) (S.few c.text) (state c);
+    } };
 }

@@ -1,6 +1,7 @@
-use Rattle.std.proofs.Common.{◌≡◌, length, rules}
+use Rattle.std.proofs.Common.{◌≡◌, rules}
+use Rattle.anystr.specs.Bytes.{byte_list}
 use Rattle.anystr.specs.Refusals.{coded}
-use Rattle.bytesinner.specs.finds.Asked.{asked}
+use Rattle.bytesinner.specs.finds.Asked.{answer_of}
 use Rattle.bytesinner.specs.finds.Counts.{count_of, Number}
 use Rattle.bytesinner.proofs.finds.Meant.{keeps}
 use Rattle.bytesinner.proofs.finds.Cutting.{number_is}
@@ -8,6 +9,7 @@ use Rattle.bytesinner.proofs.finds.count.count.Goals as goal
 
 pub returns : goal.returns
 returns c =
-    let bs = c.args.text.now.bytes.now in
-    let value : coded c.ask.result ≡ asked (count_of bs) c.args.options (length bs) = search rules in
-    record { value = value; law = keeps (count_of bs) (Number bs) c.args.options (length bs) (λ n a b k within is. number_is bs n a b k within is) c.ask.result value }
+    let bs = byte_list c.args.text.now in
+    let value : coded c.ask.result ≡ answer_of count_of bs c.args.options = search rules in
+    let law = keeps count_of Number bs c.args.options (λ n a b k within is. number_is bs n a b k within is) _ value in
+    record { value = value; law = law }

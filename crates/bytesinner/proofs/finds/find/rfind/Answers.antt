@@ -1,4 +1,5 @@
-use Rattle.std.proofs.Common.{length, rules}
+use Rattle.std.proofs.Common.{rules}
+use Rattle.anystr.specs.Bytes.{byte_list}
 use Rattle.bytesinner.specs.finds.Asked.{Keeps}
 use Rattle.bytesinner.specs.finds.Places.{rfind_of, LastPlace}
 use Rattle.bytesinner.proofs.finds.Meant.{answers}
@@ -7,6 +8,7 @@ use Rattle.bytesinner.proofs.finds.find.rfind.Goals as goal
 
 pub returns : goal.returns
 returns c =
-    let bs = c.args.text.now.bytes.now in
-    let law : Keeps (LastPlace bs) c.args.options (length bs) c.ask.result = search rules in
-    record { value = answers (rfind_of bs) (LastPlace bs) c.args.options (length bs) (λ n a b x within last. last-is bs n b within a x last) c.ask.result law; law = law }
+    let bs = byte_list c.args.text.now in
+    let law : Keeps LastPlace bs c.args.options c.ask.result = search rules in
+    let value = answers rfind_of LastPlace bs c.args.options (λ n a b x within is. last-is bs n b within a x is) _ law in
+    record { value = value; law = law }
