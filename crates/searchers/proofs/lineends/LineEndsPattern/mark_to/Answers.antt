@@ -1,10 +1,10 @@
-use Rattle.std.proofs.Common.{◌≡◌, ℕ, ◌+◌, false, T, List, sym, ◌∙◌, arith, rules}
+use Rattle.std.proofs.Common.{◌≡◌, ℕ, ◌+◌, false, IsTrue, List, sym, ◌∙◌, arith, rules}
 use Rattle.std.specs.Prelude.{◌==◌, slice_index}
 use Rattle.searchers.specs.lineends.Lines.{line_end}
 use Rattle.searchers.proofs.lineends.LineEndsPattern.mark_to.Goals as goal
 
 -- a return that no feed follows is a mark alone
-alone : (bs : List ℕ) (a e : ℕ) → e ≡ a + 1 → slice_index bs a ≡ 13 → false ≡ (slice_index bs e == 10) → T (line_end bs a e)
+alone : (bs : List ℕ) (a e : ℕ) → e ≡ a + 1 → slice_index bs a ≡ 13 → false ≡ (slice_index bs e == 10) → IsTrue (line_end bs a e)
 alone bs a e end return other = search rules
 
 pub returns-in-13 : goal.returns-in-13
