@@ -1,12 +1,11 @@
 -- Occurrences of a needle, as the code sees them.
-use Rattle.std.proofs.Common.{◌≡◌, ℕ, ◌+◌, ◌-◌, ◌<◌, ◌≤◌, true, false, T, List, [], ◌∷◌, length, take, drop, refl, sym, ap, ◌∙◌, nat_eq, arith, length-drop}
+use Rattle.std.proofs.Common.{◌≡◌, ℕ, ◌+◌, ◌-◌, ◌<◌, ◌≤◌, true, false, IsTrue, List, [], ◌∷◌, length, take, drop, refl, sym, ap, ◌∙◌, nat_eq, arith, length-drop}
 use Rattle.std.specs.Cmp.Lexicographic.{same_text, other_text}
 use lib.Pointwise.{pointwise}
 use Rattle.std.specs.List.{slice_range}
 use Rattle.std.proofs.lemmas.List.{take_all, drop-take}
 use Rattle.std.proofs.lemmas.Bool.{eq-eqb, lt-ltb, and_from}
 use Rattle.anystr.specs.OfBytes.{occurs-within}
-use Rattle.searchers.specs.Truth.{truth}
 use Rattle.searchers.specs.substring.Occurrences.{begins_with, occurrence, occurrence-is}
 
 pub begun : (n bs : List ℕ) → take (length n) bs ≡ n → begins_with n bs ≡ true
@@ -16,16 +15,16 @@ begun (x ∷ n) (b ∷ bs) e = and_from _ _ (eq-eqb b x (cc)) (begun n bs (cc))
 
 module _ (n bs : List ℕ) (a e : ℕ) where
   -- an occurrence is not empty and lies within the bytes
-  pub fits : T (occurrence n bs a e) → (0 < length n) × (e ≡ a + length n) × (e ≤ length bs)
+  pub fits : IsTrue (occurrence n bs a e) → (0 < length n) × (e ≡ a + length n) × (e ≤ length bs)
   fits m = let o = occurrence-is n bs a e m in let w = occurs-within bs n a o.nonempty o.occurs in (o.nonempty, o.end, omega arith)
 
   -- the stretch w that is compared with the needle tells whether it stands there
   module _ (w : List ℕ) (is : w ≡ take (length n) (drop a bs)) where
-    pub stands_not : pointwise nat_eq w n ≡ false → T (occurrence n bs a e) → ⊥
+    pub stands_not : pointwise nat_eq w n ≡ false → IsTrue (occurrence n bs a e) → ⊥
     stands_not other m = other_text w n (sym other) (is ∙ (occurrence-is n bs a e m).occurs)
 
-    pub stands : 0 < length n → e ≡ a + length n → pointwise nat_eq w n ≡ true → T (occurrence n bs a e)
-    stands some end same = truth _ (and_from _ _ (lt-ltb 0 (length n) some) (and_from _ _ (eq-eqb e (a + length n) end) (begun n (drop a bs) (sym is ∙ same_text w n (sym same)))))
+    pub stands : 0 < length n → e ≡ a + length n → pointwise nat_eq w n ≡ true → IsTrue (occurrence n bs a e)
+    stands some end same = and_from _ _ (lt-ltb 0 (length n) some) (and_from _ _ (eq-eqb e (a + length n) end) (begun n (drop a bs) (sym is ∙ same_text w n (sym same))))
 
 -- what the code cuts out and compares is the stretch of the needle's length from `a` on
 pub from_start : (n bs rest : List ℕ) (a : ℕ) → rest ≡ slice_range bs a (length bs) → take (length n) rest ≡ take (length n) (drop a bs)
