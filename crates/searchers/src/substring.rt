@@ -82,7 +82,8 @@ impl<'a> Pattern for Needle<'a> {
 impl<S: AnyStr> Searcher<S> for Substring<S> {
     ghost marks = { λ f es. occurrence (bytes_of S.AnyStr (needle_of f)) (concat es) };
 
-    ghost lawful = { λ f text. occurrence-lawful (bytes_of S.AnyStr (needle_of f)) (bytes_of S.AnyStr text) };
+    ghost lawful = { λ f text.
+        occurrence-lawful (bytes_of S.AnyStr (needle_of f)) (bytes_of S.AnyStr text) };
 
     #[tactic(auto, using(crate::proofs::substring::OnText::found_on))]
     fn find(&self, text: &S, from: usize) -> Option<Mark> {

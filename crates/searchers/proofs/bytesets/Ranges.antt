@@ -13,6 +13,7 @@ item : (o : Option ℕ) (x : ℕ) (P : ℕ → Type 0) → option_map (λ y. y) 
 item None x P e h = cc
 item (Some y) x P e h = let same : y ≡ x = cc in subst P same h
 
+-- an item that is there has what is said of it
 some : (o : Option ℕ) (P : ℕ → Type 0) → IsSomeAnd o P → IfSome o P
 some None P h = absurd h
 some (Some y) P h = h
@@ -26,12 +27,14 @@ module _
     abbrev Failed : ℕ → Type 0
     Failed x = CalledAt g f x false f
 
+    -- no number that was gone over passes
     failed : (k : ℕ) → a ≤ k → k - a < p.len → IfSome (p.at (k - a)) Failed → test k ≡ true → ⊥
     failed k ge lt h passes =
         let there : a + (k - a) ≡ k = omega arith in
         let call = subst Failed there (item (p.at (k - a)) (a + (k - a)) Failed (up.3 (k - a) lt) h) in
         both_ways _ (sym (is k false call)) passes
 
+    -- what the search of the range finds is the least that passes, in the range and past it
     pub first_passing : (low : ℕ) → a ≡ low → AllBelow test b → CallKeepsClosure g f → (r : Option ℕ)
         → MatchOption r ((p.whole ≡ true) × NoItemPasses p g f) (EndsAtFirstPassing p g f)
         → MatchOption r (AllBelow test low) (LeastFrom test low)

@@ -11,13 +11,14 @@ abbrev pub Whole : List (List ℕ) → List ℕ → Type 0
 Whole es n = (p : ℕ) → 0 < length n → Occurs (concat es) n p → Boundary es p × Boundary es (p + length n)
 
 module _ (es : List (List ℕ)) (n : List ℕ) (whole : Whole es n) where
+  -- so each mark of the needle lies on boundaries
   occurrences_on : Bounded es (occurrence n (concat es))
   occurrences_on a e m =
       let o = occurrence-is n (concat es) a e m in
       let w = whole a o.nonempty o.occurs in
       (w.0, subst (Boundary es) (sym o.end) w.1)
 
-  -- so does what is found
+  -- and so does what is found, from the start and from the end
   pub found_on : (from : ℕ) (r : Option Mark) → Finds (occurrence n (concat es)) from r → OnBoundaries es r
   found_on from None h = tt
   found_on from (Some m) h = occurrences_on m.start m.end h.is
