@@ -1,23 +1,23 @@
 -- Cuts that take, each in turn, the least mark that may be cut: they are what the rule asks for, and no other list is. Assumes nothing.
-use Rattle.std.proofs.Common.{◌≡◌, ℕ, suc, ◌+◌, ◌<◌, ◌≤◌, cond, T, ltb, List, [], ◌∷◌, ◌++◌, ℤ, Some, None, Option, sym, refl, subst, inl, inr, ⊎_elim, zero-add, arith}
+use Rattle.std.proofs.Common.{◌≡◌, ℕ, suc, ◌+◌, ◌<◌, ◌≤◌, cond, IsTrue, ltb, List, [], ◌∷◌, ◌++◌, ℤ, Some, None, Option, sym, refl, subst, inl, inr, ⊎_elim, zero-add, arith}
 use Rattle.std.proofs.lemmas.Bool.{cond-true, cond-false, lt-ltb, le-ltb, cases_lt}
 use Rattle.searchers.specs.Marks.{Marks, Span, Lawful, Least}
 use Rattle.cuts.specs.Cuts.{fewer}
 use Rattle.cuts.specs.Runs.{In, Free, earlier, CutRule, Cut, marks_of, Lie, count}
 
 abbrev pub Few : ℤ → ℕ → Type 0
-Few bound n = T (fewer n bound)
+Few bound n = IsTrue (fewer n bound)
 
 -- cuts from `p` on, after `n` others, each the least mark that may be cut, and none left to cut before `rest`
 abbrev pub Greedy : Marks → ℤ → ℕ → ℕ → List Span → ℕ → Type 0
-Greedy marks bound n p [] rest = (p ≤ rest) × (Few bound n → (b d : ℕ) → T (marks b d) → p ≤ b → b < rest → ⊥)
+Greedy marks bound n p [] rest = (p ≤ rest) × (Few bound n → (b d : ℕ) → IsTrue (marks b d) → p ≤ b → b < rest → ⊥)
 Greedy marks bound n p (c ∷ cs) rest = Least marks p c.0 c.1 × Few bound n × Greedy marks bound (suc n) c.1 cs rest
 
 -- the rule, from `p` on and after `n` other cuts
 record RuleFrom (marks : Marks) (bound : ℤ) (n p rest : ℕ) (cut : List Span) : Type 0 where
-  marked : (m : Span) → In m cut → T (marks m.0 m.1) × (p ≤ m.0) × (m.0 < rest)
+  marked : (m : Span) → In m cut → IsTrue (marks m.0 m.1) × (p ≤ m.0) × (m.0 < rest)
   only : (m : Span) → In m cut → Free cut m × Few bound (n + earlier cut m.0)
-  every : (m : Span) → T (marks m.0 m.1) → p ≤ m.0 → m.0 < rest → Free cut m → Few bound (n + earlier cut m.0) → In m cut
+  every : (m : Span) → IsTrue (marks m.0 m.1) → p ≤ m.0 → m.0 < rest → Free cut m → Few bound (n + earlier cut m.0) → In m cut
 
 few-at : (bound : ℤ) (j k : ℕ) → j ≡ k → Few bound j → Few bound k
 few-at bound j k e h = subst (Few bound) e h
@@ -65,14 +65,14 @@ module _ {marks : Marks} {len : ℕ} (bound : ℤ) (law : Lawful marks len) wher
   greedy_end n p [] rest g = g.0
   greedy_end n p (c ∷ cs) rest g = omega (arith, g.0.after, law.nonempty _ _ g.0.is, greedy_end (suc n) c.1 cs rest g.2)
 
-  greedy_marked : (n p : ℕ) (cut : List Span) (rest : ℕ) → Greedy marks bound n p cut rest → (m : Span) → In m cut → T (marks m.0 m.1) × (p ≤ m.0) × (m.0 < rest)
+  greedy_marked : (n p : ℕ) (cut : List Span) (rest : ℕ) → Greedy marks bound n p cut rest → (m : Span) → In m cut → IsTrue (marks m.0 m.1) × (p ≤ m.0) × (m.0 < rest)
   greedy_marked n p [] rest g m h = absurd h
   greedy_marked n p (c ∷ cs) rest g m (inl e) =
       let e0 : m.0 ≡ c.0 = λ i. (e i).0 in
       let long = law.nonempty _ _ g.0.is in
       let end = greedy_end (suc n) c.1 cs rest g.2 in
       let from = g.0.after in
-      (subst (λ (x : Span). T (marks x.0 x.1)) (sym e) g.0.is, omega arith, omega arith)
+      (subst (λ (x : Span). IsTrue (marks x.0 x.1)) (sym e) g.0.is, omega arith, omega arith)
   greedy_marked n p (c ∷ cs) rest g m (inr h) =
       let r = greedy_marked (suc n) c.1 cs rest g.2 m h in
       (r.0, omega (arith, g.0.after, law.nonempty _ _ g.0.is), r.2)
@@ -93,7 +93,7 @@ module _ {marks : Marks} {len : ℕ} (bound : ℤ) (law : Lawful marks len) wher
       (free_more c cs m from r.0, few-at bound (suc n + earlier cs m.0) (n + earlier (c ∷ cs) m.0) (omega arith) r.1)
 
   greedy_every : (n p : ℕ) (cut : List Span) (rest : ℕ) → Greedy marks bound n p cut rest
-      → (m : Span) → T (marks m.0 m.1) → p ≤ m.0 → m.0 < rest → Free cut m → Few bound (n + earlier cut m.0) → In m cut
+      → (m : Span) → IsTrue (marks m.0 m.1) → p ≤ m.0 → m.0 < rest → Free cut m → Few bound (n + earlier cut m.0) → In m cut
   greedy_every n p [] rest g m is from lt free few = g.1 (few-at bound (n + 0) n (omega arith) few) m.0 m.1 is from lt
   greedy_every n p (c ∷ cs) rest g m is from lt free few =
       let first = g.0.least m.0 m.1 from is in
@@ -144,7 +144,7 @@ module _ {marks : Marks} {len : ℕ} (bound : ℤ) (law : Lawful marks len) wher
       let first = first-first c cs l.3 later in
       let none = earlier-none (c ∷ cs) c.0 first in
       let few = few-at bound (n + earlier (c ∷ cs) c.0) n (omega arith) (r.only c (inl refl)).1 in
-      let least : (b d : ℕ) → p ≤ b → T (marks b d) → c.0 ≤ b =
+      let least : (b d : ℕ) → p ≤ b → IsTrue (marks b d) → c.0 ≤ b =
       λ b d from m.
       ⊎_elim
       (λ lt.

@@ -1,18 +1,18 @@
 -- `cuts` over every mark of a text is greedy. Assumes nothing.
-use Rattle.std.proofs.Common.{◌≡◌, ℕ, zero, suc, ◌+◌, ◌<◌, ◌≤◌, Bool, true, false, cond, ◌&&◌, T, leb, ◌⊎◌, List, [], ◌∷◌, ◌++◌, ℤ, sym, refl, subst, inl, inr, ⊎_elim, arith}
-use Rattle.std.proofs.lemmas.Bool.{leb-true, leb-false, and_parts, and_cases, cases_lt}
+use Rattle.std.proofs.Common.{◌≡◌, ℕ, zero, suc, ◌+◌, ◌<◌, ◌≤◌, Bool, true, false, cond, ◌&&◌, IsTrue, leb, ◌⊎◌, List, [], ◌∷◌, ◌++◌, ℤ, sym, refl, subst, inl, inr, ⊎_elim, arith}
+use Rattle.std.proofs.lemmas.Bool.{leb-true, leb-false, and_parts, and_cases, both_ways, cases_lt}
 use Rattle.searchers.specs.Marks.{Marks, Span, Lawful}
 use Rattle.cuts.specs.Cuts.{begun, listed, all_marks, fewer, cuts}
 use Rattle.cuts.proofs.Greedy.{Few, Greedy, greedy_one}
 
 -- the list is the mark that begins at `a` and ends at `e` or after it, up to `n` bytes on; or it is empty, and there is none
 abbrev Begun : Marks → ℕ → ℕ → ℕ → List Span → Type 0
-Begun marks a e n ms = ((ms ≡ []) × ((d : ℕ) → e ≤ d → d < e + n → T (marks a d) → ⊥)) ⊎ ((d : ℕ) × (ms ≡ (a, d) ∷ []) × T (marks a d))
+Begun marks a e n ms = ((ms ≡ []) × ((d : ℕ) → e ≤ d → d < e + n → IsTrue (marks a d) → ⊥)) ⊎ ((d : ℕ) × (ms ≡ (a, d) ∷ []) × IsTrue (marks a d))
 
 begun_more : (marks : Marks) (a e n : ℕ) (ms : List Span) → Begun marks a (suc e) n ms → (b : Bool) → marks a e ≡ b → Begun marks a e (suc n) (cond b ((a, e) ∷ []) ms)
-begun_more marks a e n ms r true is = inr (e, refl, rw is tt)
+begun_more marks a e n ms r true is = inr (e, refl, is)
 begun_more marks a e n ms (inl r) false is =
-    inl (r.0, λ d from lt h. ⊎_elim (λ further. r.1 d further (omega arith) h) (λ here. let same : d ≡ e = omega arith in rw (same, is) at h) (cases_lt e d))
+    inl (r.0, λ d from lt h. ⊎_elim (λ further. r.1 d further (omega arith) h) (λ here. let same : d ≡ e = omega arith in absurd (both_ways _ is (rw same at h))) (cases_lt e d))
 begun_more marks a e n ms (inr r) false is = inr r
 
 begun-is : (marks : Marks) (a e n : ℕ) → Begun marks a e n (begun marks a e n)
@@ -21,23 +21,23 @@ begun-is marks a e (suc n) = begun_more marks a e n (begun marks a (suc e) n) (b
 
 -- after `made` cuts no mark that begins from `place` to `a` may be cut
 abbrev Past : Marks → ℤ → ℕ → ℕ → ℕ → Type 0
-Past marks bound made place a = Few bound made → (b d : ℕ) → T (marks b d) → place ≤ b → b < a → ⊥
+Past marks bound made place a = Few bound made → (b d : ℕ) → IsTrue (marks b d) → place ≤ b → b < a → ⊥
 
 module _ {marks : Marks} {len : ℕ} (bound : ℤ) (law : Lawful marks len) where
   -- a mark begins at `a`, and it is cut or not
   turn : (a made place e : ℕ) (ms : List Span) → ((made place : ℕ) → place ≤ len → Past marks bound made place (suc a) → Greedy marks bound made place (cuts bound made place ms) len)
-      → place ≤ len → Past marks bound made place a → T (marks a e)
+      → place ≤ len → Past marks bound made place a → IsTrue (marks a e)
       → (test : Bool) → (leb place a && fewer made bound) ≡ test → Greedy marks bound made place (cond test ((a, e) ∷ cuts bound (suc made) e ms) (cuts bound made place ms)) len
   turn a made place e ms go within none is true t =
       let parts = and_parts (leb place a) (fewer made bound) t in
-      let few : Few bound made = rw parts.1 tt in
+      let few : Few bound made = parts.1 in
       let long = law.nonempty a e is in (
         record { after = leb-true place a parts.0; is = is; least = λ b d from m. ⊎_elim (λ lt. absurd (none few b d m from lt)) (λ h. h) (cases_lt b a) },
         few,
         go (suc made) e (law.within a e is) (λ _ b d m from lt. omega arith),
       )
   turn a made place e ms go within none is false t =
-      go made place within (λ few b d m from lt. ⊎_elim (λ h. omega (arith, leb-false place a h)) (λ h. rw h at few) (and_cases (leb place a) (fewer made bound) t))
+      go made place within (λ few b d m from lt. ⊎_elim (λ h. omega (arith, leb-false place a h)) (λ h. absurd (both_ways _ h few)) (and_cases (leb place a) (fewer made bound) t))
 
   greedy_listed : (a n made place : ℕ) → a + n ≡ len → place ≤ len → Past marks bound made place a → Greedy marks bound made place (cuts bound made place (listed marks a n)) len
   greedy_listed a zero made place sum within none = (within, λ few b d is from lt. none few b d is from (omega arith))

@@ -1,5 +1,5 @@
 -- What a text is split into keeps the rule of its cuts, and joined again it is the text.
-use Rattle.std.proofs.Common.{◌≡◌, ℕ, suc, ◌+◌, ◌-◌, ◌<◌, ◌≤◌, Bool, cond, T, ltb, ◌⊎◌, List, [], ◌∷◌, ◌++◌, map, length, take, drop, ℤ, sym, refl, ap, ◌∙◌, subst, inl, inr, ⊎_elim, arith}
+use Rattle.std.proofs.Common.{◌≡◌, ℕ, suc, ◌+◌, ◌-◌, ◌<◌, ◌≤◌, Bool, cond, IsTrue, ltb, ◌⊎◌, List, [], ◌∷◌, ◌++◌, map, length, take, drop, ℤ, sym, refl, ap, ◌∙◌, subst, inl, inr, ⊎_elim, arith}
 use mathlib.Core.List.{reverse-cons}
 use Rattle.std.proofs.lemmas.List.{take_rest, take-append-drop, drop-drop}
 use Rattle.std.proofs.lemmas.Bool.{lt-ltb, le-ltb, cases_lt}
@@ -125,7 +125,7 @@ module _ {marks : Marks} {len : ℕ} (bound : ℤ) (law : Lawful marks len) (res
         let w = long c r.2 in
         let p = (rule.marked c r.2).1 in
         let end : m.1 ≡ len - c.0 = λ i. (r.1 i).1 in
-        (subst (λ (x : Span). T (marks x.0 x.1)) (sym r.1) k.is, omega (arith, k.start, k.end));
+        (subst (λ (x : Span). IsTrue (marks x.0 x.1)) (sym r.1) k.is, omega (arith, k.start, k.end));
     only = λ m h.
         let r = turned-in len m ms h in
         let c = r.0 in
@@ -137,7 +137,7 @@ module _ {marks : Marks} {len : ℕ} (bound : ℤ) (law : Lawful marks len) (res
               let d1 : d.1 ≡ len - s.0.0 = λ i. (s.1 i).1 in
               let d0 : d.0 ≡ len - s.0.1 = λ i. (s.1 i).0 in
               o.0 s.0 s.2 (omega arith) (omega arith, omega arith),
-          subst (λ (n : ℕ). T (fewer n bound)) (sym (ap (later (turned len ms)) end ∙ count c.0 (inside c r.2).start)) o.1,
+          subst (λ (n : ℕ). IsTrue (fewer n bound)) (sym (ap (later (turned len ms)) end ∙ count c.0 (inside c r.2).start)) o.1,
         );
     every = λ m is past free few.
         let w = law.nonempty _ _ is in
@@ -146,7 +146,7 @@ module _ {marks : Marks} {len : ℕ} (bound : ℤ) (law : Lawful marks len) (res
         let there = flip-flip marks len m (omega arith) e in
         let found : In (flip len m) ms = rule.every (flip len m) (seen marks len m.0 m.1 (omega arith) e is) (omega arith)
         (λ d k lt over. free (flip len d) (in_turned len d ms k) (omega (arith, (inside d k).start)) (omega arith, omega arith))
-        (subst (λ (n : ℕ). T (fewer n bound)) (ap (later (turned len ms)) (sym back) ∙ count (len - m.1) (omega arith)) few) in
+        (subst (λ (n : ℕ). IsTrue (fewer n bound)) (ap (later (turned len ms)) (sym back) ∙ count (len - m.1) (omega arith)) few) in
         subst (λ (x : Span). In x (turned len ms)) there (in_turned len (flip len m) ms found);
   }
 

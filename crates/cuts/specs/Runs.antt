@@ -1,5 +1,5 @@
 -- What holds of a cutter after every list of calls, in the words of marks, cuts and pieces. Assumes nothing.
-use Rattle.std.specs.Prelude.{◌≡◌, ℕ, zero, suc, ◌+◌, ◌-◌, ◌<◌, ◌≤◌, cond, if◌then◌else◌, T, ◌⊎◌, List, [], ◌∷◌, ◌++◌, length, ℤ, Some, None, Ok, Err, Option, Result, nat_le, nat_lt}
+use Rattle.std.specs.Prelude.{◌≡◌, ℕ, zero, suc, ◌+◌, ◌-◌, ◌<◌, ◌≤◌, cond, if◌then◌else◌, IsTrue, ◌⊎◌, List, [], ◌∷◌, ◌++◌, length, ℤ, Some, None, Ok, Err, Option, Result, nat_le, nat_lt}
 use Rattle.anystr.specs.declared.refusal.Refusal.TheVariants.{Spent, TooFew}
 use Rattle.anystr.specs.Refusals.{code}
 use Rattle.searchers.specs.Marks.{Marks, Span}
@@ -26,9 +26,9 @@ earlier (c ∷ cs) a = cond (nat_lt c.0 a) 1 0 + earlier cs a
 -- Of the marks that begin before the rest, exactly those are cut that no earlier cut overlaps and whose
 -- earlier cuts are fewer than the bound.
 pub record CutRule (marks : Marks) (bound : ℤ) (rest : ℕ) (cut : List Span) : Type 0 where
-  pub marked : (m : Span) → In m cut → T (marks m.0 m.1) × (m.0 < rest)
-  pub only : (m : Span) → In m cut → Free cut m × T (fewer (earlier cut m.0) bound)
-  pub every : (m : Span) → T (marks m.0 m.1) → m.0 < rest → Free cut m → T (fewer (earlier cut m.0) bound) → In m cut
+  pub marked : (m : Span) → In m cut → IsTrue (marks m.0 m.1) × (m.0 < rest)
+  pub only : (m : Span) → In m cut → Free cut m × IsTrue (fewer (earlier cut m.0) bound)
+  pub every : (m : Span) → IsTrue (marks m.0 m.1) → m.0 < rest → Free cut m → IsTrue (fewer (earlier cut m.0) bound) → In m cut
 
 -- a piece with the mark that is cut after it
 abbrev pub Cut : Type 0

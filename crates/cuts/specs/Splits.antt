@@ -1,5 +1,5 @@
 -- What a text is split into at marks, from the front and from the end. Assumes nothing.
-use Rattle.std.specs.Prelude.{◌≡◌, ℕ, ◌+◌, ◌-◌, ◌<◌, ◌≤◌, cond, ◌&&◌, T, List, [], ◌∷◌, map, reverse, ℤ, Option, nat_le, nat_lt}
+use Rattle.std.specs.Prelude.{◌≡◌, ℕ, ◌+◌, ◌-◌, ◌<◌, ◌≤◌, cond, ◌&&◌, IsTrue, List, [], ◌∷◌, map, reverse, ℤ, Option, nat_le, nat_lt}
 use Rattle.std.specs.Option.{option_map}
 use Rattle.searchers.specs.Marks.{Marks, Span}
 use Rattle.cuts.specs.Cuts.{all_marks, cuts, between, fewer, Opening, size, State, pieces_left, next_of}
@@ -49,9 +49,9 @@ later (c ∷ cs) e = cond (nat_lt e c.1) 1 0 + later cs e
 -- Of the marks that end after `rest`, exactly those are cut that no later cut overlaps and whose later cuts
 -- are fewer than the bound.
 pub record CutRuleBack (marks : Marks) (bound : ℤ) (rest : ℕ) (cut : List Span) : Type 0 where
-  pub marked : (m : Span) → In m cut → T (marks m.0 m.1) × (rest < m.1)
-  pub only : (m : Span) → In m cut → FreeBack cut m × T (fewer (later cut m.1) bound)
-  pub every : (m : Span) → T (marks m.0 m.1) → rest < m.1 → FreeBack cut m → T (fewer (later cut m.1) bound) → In m cut
+  pub marked : (m : Span) → In m cut → IsTrue (marks m.0 m.1) × (rest < m.1)
+  pub only : (m : Span) → In m cut → FreeBack cut m × IsTrue (fewer (later cut m.1) bound)
+  pub every : (m : Span) → IsTrue (marks m.0 m.1) → rest < m.1 → FreeBack cut m → IsTrue (fewer (later cut m.1) bound) → In m cut
 
 -- cuts that stand one after another from `p` to `len`, none of them empty
 abbrev pub Apart : ℕ → List Span → ℕ → Type 0

@@ -1,5 +1,6 @@
 -- The marks of a text, as a searcher means them. Assumes nothing.
-use Rattle.std.specs.Prelude.{◌≡◌, ℕ, zero, suc, ◌<◌, ◌≤◌, Bool, IsTrue, List, Some, None, Option}
+use Rattle.std.specs.Prelude.{◌≡◌, ℕ, zero, suc, ◌+◌, ◌<◌, ◌≤◌, Bool, IsTrue, List, Some, None, Option}
+use Rattle.std.proofs.Common.{arith}
 use Rattle.anystr.specs.Elements.{Boundary}
 use Rattle.searchers.specs.declared.mark.Mark.{Mark}
 
@@ -67,3 +68,13 @@ Bounded es marks = (a e : ℕ) → IsTrue (marks a e) → Boundary es a × Bound
 abbrev pub CutTimes : Marks → (from n : ℕ) → Type 0
 CutTimes marks from zero = NoneFrom marks from
 CutTimes marks from (suc n) = (a e : ℕ) × Least marks from a e × CutTimes marks e n
+
+-- marks that are all as long, and lie within the text, keep it
+pub one_length-lawful : (marks : Marks) (len k : ℕ)
+    → ((a e : ℕ) → IsTrue (marks a e) → (0 < k) × (e ≡ a + k) × (e ≤ len)) → Lawful marks len
+one_length-lawful marks len k long = record {
+  nonempty = λ a e m. let l = long a e m in omega arith;
+  within = λ a e m. (long a e m).2;
+  one_a_start = λ a d e m n. let l = long a d m in let r = long a e n in omega arith;
+  one_an_end = λ a b e m n. let l = long a e m in let r = long b e n in omega arith;
+}

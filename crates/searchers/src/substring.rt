@@ -60,6 +60,7 @@ impl<'a> Pattern for Needle<'a> {
 
     ghost lawful = { λ f. occurrence-lawful (needle_bytes f) };
 
+    #[tactic(auto, using(crate::proofs::substring::Needles::needle_steps))]
     fn mark_from(&self, bytes: &[u8], start: usize) -> Option<usize> {
         if self.bytes.is_empty() {
             return None;
@@ -68,6 +69,7 @@ impl<'a> Pattern for Needle<'a> {
         Some(bytes.len() - rest.len())
     }
 
+    #[tactic(auto, using(crate::proofs::substring::Needles::needle_steps))]
     fn mark_to(&self, bytes: &[u8], end: usize) -> Option<usize> {
         if self.bytes.is_empty() {
             return None;
@@ -80,16 +82,17 @@ impl<'a> Pattern for Needle<'a> {
 impl<S: AnyStr> Searcher<S> for Substring<S> {
     ghost marks = { λ f es. occurrence (bytes_of S.AnyStr (needle_of f)) (concat es) };
 
-    ghost lawful = { λ f text. occurrence-lawful (bytes_of S.AnyStr (needle_of f)) (bytes_of S.AnyStr text) };
+    ghost lawful = { λ f text.
+        occurrence-lawful (bytes_of S.AnyStr (needle_of f)) (bytes_of S.AnyStr text) };
 
-    #[tactic(auto, using(crate::proofs::substring::OnText::occurrences_on))]
+    #[tactic(auto, using(crate::proofs::substring::OnText::found_on))]
     fn find(&self, text: &S, from: usize) -> Option<Mark> {
         first_mark(&self.pattern(), text.as_bytes(), from)
     }
 }
 
 impl<S: AnyStr> ReverseSearcher<S> for Substring<S> {
-    #[tactic(auto, using(crate::proofs::substring::OnText::occurrences_on))]
+    #[tactic(auto, using(crate::proofs::substring::OnText::found_back_on))]
     fn rfind(&self, text: &S, before: usize) -> Option<Mark> {
         last_mark(&self.pattern(), text.as_bytes(), before)
     }

@@ -18,7 +18,7 @@ use Rattle.bytesinner.proofs.finds.Parts.{length_part}
 -- as many cuts are still to be made from a place on as marks are cut from there
 cuts-are : (n bs : List ℕ) (made place k : ℕ) → CutTimes (occurrence n bs) place k → length (cut_from (opening_at bs n unbounded) made place) ≡ k
 cuts-are n bs made place zero none = ap length (none_found (opening_at bs n unbounded) (occurrence-lawful n bs) made place none)
-cuts-are n bs made place (suc k) (s, e, least, rest) = ap length (cut-found (opening_at bs n unbounded) (occurrence-lawful n bs) made place s e tt least) ∙ ap suc (cuts-are n bs (suc made) e k rest)
+cuts-are n bs made place (suc k) (s, e, least, rest) = ap length (cut-found (opening_at bs n unbounded) (occurrence-lawful n bs) made place s e refl least) ∙ ap suc (cuts-are n bs (suc made) e k rest)
 
 times-are : (n bs : List ℕ) (k : ℕ) → 0 < length n → CutTimes (occurrence n bs) 0 k → k ≡ times n bs
 times-are [] bs k some cut = absurd (omega arith)

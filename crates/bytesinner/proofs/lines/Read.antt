@@ -3,7 +3,6 @@ use Rattle.std.proofs.Common.{◌≡◌, ℕ, suc, ◌+◌, ◌-◌, ◌<◌, �
 use Rattle.std.proofs.lemmas.List.{drop-drop, take-append-drop, take_rest, drop_all}
 use Rattle.std.proofs.lemmas.Bool.{eq-eqb, ne_eqb, ltb-true, ltb-false, le-ltb, and_from, and_left, and_right, or_left, or_right, not_from_false, cases_lt, cases_eq, cond_both}
 use Rattle.searchers.specs.Marks.{Span}
-use Rattle.searchers.specs.Truth.{truth}
 use Rattle.searchers.specs.lineends.Lines.{cr, lf, line_end, LineEnd, pair, lone_cr, lone_lf, line_end-is, line_end-lawful}
 use Rattle.cuts.specs.Cuts.{between, cuts, all_marks}
 use Rattle.cuts.proofs.Greedy.{Greedy}
@@ -52,14 +51,14 @@ reads-from : (bs : List ℕ) (n p : ℕ) (ms : List Span) → Greedy (line_end b
     → Reads bs p (filled (between p (length bs) ms)) (kept (length bs) (filled (between p (length bs) ms)))
 reads-from bs n p [] g apart =
     cond_both (ltb p (length bs)) ((p, length bs) ∷ []) [] (λ (ls : List Span). Reads bs p ls (kept (length bs) ls))
-    (λ is. last (ltb-true p (length bs) is) (bare bs p (length bs) apart (λ b d ge lt m. g.1 tt b d (truth _ (is-mark bs b d m)) ge lt)))
+    (λ is. last (ltb-true p (length bs) is) (bare bs p (length bs) apart (λ b d ge lt m. g.1 refl b d (is-mark bs b d m) ge lt)))
     (λ no. ended (omega (arith, ltb-false p (length bs) no, g.0)))
 reads-from bs n p (m ∷ ms) g apart =
     let least = g.0 in
     let len : ℕ = length bs in
     let end : LineEnd bs m.0 m.1 = line_end-is bs m.0 m.1 least.is in
     let others : List Span = filled (between m.1 len ms) in
-    let none : (b d : ℕ) → p ≤ b → b < m.0 → LineEnd bs b d → ⊥ = λ b d ge lt k. let le = least.least b d ge (truth _ (is-mark bs b d k)) in omega arith in
+    let none : (b d : ℕ) → p ≤ b → b < m.0 → LineEnd bs b d → ⊥ = λ b d ge lt k. let le = least.least b d ge (is-mark bs b d k) in omega arith in
     let rest = reads-from bs (suc n) m.1 ms g.2 (apart_after bs m.0 m.1 end) in
     let here : Reads bs p ((p, m.0) ∷ others) ((p, m.1) ∷ kept len others) = line least.after (bare bs p m.0 apart none) end rest in
     let begins = starts m.1 len ms ((line_end-lawful bs).within m.0 m.1 least.is) in
@@ -70,7 +69,7 @@ reads-from bs n p (m ∷ ms) g apart =
 whole_from : (bs : List ℕ) {p : ℕ} {ls ks : List Span} → Reads bs p ls ks → bytes_of bs ks ≡ drop p bs
 whole_from bs {p} (ended is) = sym (drop_all p bs (omega arith))
 whole_from bs {p} (line {a = a} {e = e} from clear end more) =
-    let mark = truth _ (is-mark bs a e end) in
+    let mark = is-mark bs a e end in
     let long = (line_end-lawful bs).nonempty a e mark in
     let z : p + (e - p) ≡ e = omega arith in
     ap (λ (xs : List ℕ). take (e - p) (drop p bs) ++ xs) (whole_from bs more ∙ ap (λ (j : ℕ). drop j bs) (sym z) ∙ sym (drop-drop (e - p) p bs)) ∙ take-append-drop (e - p) (drop p bs)

@@ -1,5 +1,5 @@
 -- What the written places keep.
-use Rattle.std.proofs.Common.{◌≡◌, ℕ, ◌+◌, ◌-◌, ◌<◌, T, List, [], ◌∷◌, length, take, drop, ℤ, Ok, Err, Result, sym, refl, ap, ◌∙◌, subst, arith}
+use Rattle.std.proofs.Common.{◌≡◌, ℕ, ◌+◌, ◌-◌, ◌<◌, IsTrue, List, [], ◌∷◌, length, take, drop, ℤ, Ok, Err, Result, sym, refl, ap, ◌∙◌, subst, arith}
 use Rattle.std.specs.List.{concat}
 use Rattle.anystr.specs.Elements.{Boundary, Occurs}
 use Rattle.anystr.specs.Places.{Lists, part}
@@ -22,7 +22,7 @@ split_written P [] ps p list list' (Err e) h = tt
 split_written P (b ∷ bs) ps p list list' r h = written P ps p list list' r h
 
 -- an occurrence of the separator reads as it
-reads : (bytes sep : List ℕ) (m : Span) → T (occurrence sep bytes m.0 m.1) → part bytes m ≡ sep
+reads : (bytes sep : List ℕ) (m : Span) → IsTrue (occurrence sep bytes m.0 m.1) → part bytes m ≡ sep
 reads bytes sep m is =
     let o = occurrence-is sep bytes m.0 m.1 is in
     let long : m.1 - m.0 ≡ length sep = omega arith in
@@ -32,7 +32,7 @@ reads bytes sep m is =
 abbrev pub Whole : List (List ℕ) → List ℕ → Type 0
 Whole es sep = (p : ℕ) → 0 < length sep → Occurs (concat es) sep p → Boundary es p × Boundary es (p + length sep)
 
-on-boundaries : (es : List (List ℕ)) (sep : List ℕ) → Whole es sep → (m : Span) → T (occurrence sep (concat es) m.0 m.1) → Boundary es m.0 × Boundary es m.1
+on-boundaries : (es : List (List ℕ)) (sep : List ℕ) → Whole es sep → (m : Span) → IsTrue (occurrence sep (concat es) m.0 m.1) → Boundary es m.0 × Boundary es m.1
 on-boundaries es sep whole m is =
     let o = occurrence-is sep (concat es) m.0 m.1 is in
     let b = whole m.0 o.nonempty o.occurs in
@@ -46,7 +46,7 @@ pub record Kept (Split : List Span → Type 0) (es : List (List ℕ)) (sep : Lis
 
 -- they hold where each cut of the rule is an occurrence of the separator
 module _ (Rule : List Span → Type 0) (es : List (List ℕ)) (sep : List ℕ) (whole : Whole es sep)
-    (marked : (cut : List Span) → Rule cut → (m : Span) → In m cut → T (occurrence sep (concat es) m.0 m.1))
+    (marked : (cut : List Span) → Rule cut → (m : Span) → In m cut → IsTrue (occurrence sep (concat es) m.0 m.1))
     (ps : List Span) (by : SplitBy Rule (length (concat es)) ps) where
   cuttable : Cuttable es ps
   cuttable p h =

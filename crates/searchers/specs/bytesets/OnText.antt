@@ -7,6 +7,7 @@ use Rattle.searchers.specs.Ascii.{AsciiApart}
 use Rattle.searchers.specs.Marks.{Bounded}
 use Rattle.searchers.specs.bytesets.Sets.{AllBelow, single_bytes, single_bytes-is}
 
+-- a byte below 128 begins and ends at boundaries
 pub single_bytes-bounded : (set : ℕ → Bool) → AllBelow set 128 → (es : List (List ℕ)) → AsciiApart es
     → Bounded es (single_bytes set (concat es))
 single_bytes-bounded set low es apart a e m =

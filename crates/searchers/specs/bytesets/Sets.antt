@@ -6,7 +6,7 @@ use Rattle.std.proofs.Common.{arith, eqb-true, ltb-true}
 use Rattle.std.proofs.lemmas.Bool.{and_parts}
 use Rattle.anystr.specs.Refusals.{code}
 use Rattle.anystr.specs.declared.refusal.Refusal.{Refusal}
-use Rattle.searchers.specs.Marks.{Marks, Lawful}
+use Rattle.searchers.specs.Marks.{Marks, Lawful, one_length-lawful}
 
 -- whether a byte is one of these
 abbrev pub among : List ℕ → ℕ → Bool
@@ -49,6 +49,7 @@ pub record SingleByte (set : ℕ → Bool) (bs : List ℕ) (a e : ℕ) : Type 0 
   pub end : e ≡ suc a
   pub has : IsTrue (set (slice_index bs a))
 
+-- what a mark of a set is
 pub single_bytes-is : (set : ℕ → Bool) (bs : List ℕ) (a e : ℕ)
     → IsTrue (single_bytes set bs a e) → SingleByte set bs a e
 single_bytes-is set bs a e m =
@@ -56,16 +57,8 @@ single_bytes-is set bs a e m =
     let q = and_parts _ _ p.1 in
     record { within = ltb-true _ _ p.0; end = eqb-true _ _ q.0; has = q.1 }
 
+-- the marks of a set keep what marks keep
 pub single_bytes-lawful : (set : ℕ → Bool) (bs : List ℕ) → Lawful (single_bytes set bs) (length bs)
-single_bytes-lawful set bs = record {
-  nonempty = λ a e m. let s = single_bytes-is set bs a e m in omega arith;
-  within = λ a e m. let s = single_bytes-is set bs a e m in omega arith;
-  one_a_start = λ a d e m k.
-      let s = single_bytes-is set bs a d m in
-      let t = single_bytes-is set bs a e k in
-      omega arith;
-  one_an_end = λ a b e m k.
-      let s = single_bytes-is set bs a e m in
-      let t = single_bytes-is set bs b e k in
-      omega arith;
-}
+single_bytes-lawful set bs =
+    one_length-lawful (single_bytes set bs) (length bs) 1
+    (λ a e m. let s = single_bytes-is set bs a e m in (omega arith, omega arith, omega arith))

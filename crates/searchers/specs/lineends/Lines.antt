@@ -28,6 +28,7 @@ pub data LineEnd (bs : List ℕ) (a e : ℕ) : Type 0 where
   lone_cr : slice_index_or bs a 0 ≡ 13 → (slice_index bs (suc a) ≢ 10) → e ≡ suc a → LineEnd bs a e
   lone_lf : slice_index_or bs a 0 ≡ 10 → (0 < a → slice_index bs (a - 1) ≢ 13) → e ≡ suc a → LineEnd bs a e
 
+-- what a mark of line ends is
 pub line_end-is : (bs : List ℕ) (a e : ℕ) → IsTrue (line_end bs a e) → LineEnd bs a e
 line_end-is bs a e m = ⊎_elim paired (λ h. ⊎_elim return feed (or_cases _ _ h)) (or_cases _ _ m)
   where
@@ -56,16 +57,19 @@ pub stands : (bs : List ℕ) (p x : ℕ) → 0 < x → slice_index bs p ≡ x �
 stands bs p x some e =
     ⊎_elim (λ h. h) (λ h. let z = get_or_past bs p 0 h in absurd (omega arith)) (cases_lt p (length bs))
 
+-- a line end lies within the bytes
 within : (bs : List ℕ) (a e : ℕ) → LineEnd bs a e → e ≤ length bs
 within bs a e (pair x y z) = omega (arith, stands bs (suc a) 10 (omega arith) y)
 within bs a e (lone_cr x y z) = omega (arith, stands bs a 13 (omega arith) x)
 within bs a e (lone_lf x y z) = omega (arith, stands bs a 10 (omega arith) x)
 
+-- and is not empty
 longer : (bs : List ℕ) (a e : ℕ) → LineEnd bs a e → a < e
 longer bs a e (pair x y z) = omega arith
 longer bs a e (lone_cr x y z) = omega arith
 longer bs a e (lone_lf x y z) = omega arith
 
+-- two that begin at one offset end at one
 one_a_start : (bs : List ℕ) (a d e : ℕ) → LineEnd bs a d → LineEnd bs a e → d ≡ e
 one_a_start bs a d e (pair x y z) (pair _ _ w) = omega arith
 one_a_start bs a d e (pair x y z) (lone_cr _ u w) = absurd (u y)
@@ -77,9 +81,11 @@ one_a_start bs a d e (lone_lf x y z) (pair v _ w) = absurd (omega arith)
 one_a_start bs a d e (lone_lf x y z) (lone_cr v _ w) = omega arith
 one_a_start bs a d e (lone_lf x y z) (lone_lf _ _ w) = omega arith
 
+-- what stands at an offset stands at the same offset under another name
 at : (bs : List ℕ) (p q x : ℕ) → p ≡ q → slice_index bs p ≡ x → slice_index bs q ≡ x
 at bs p q x e h = subst (λ (k : ℕ). slice_index bs k ≡ x) e h
 
+-- two that end at one offset begin at one
 one_an_end : (bs : List ℕ) (a b e : ℕ) → LineEnd bs a e → LineEnd bs b e → a ≡ b
 one_an_end bs a b e (pair x y z) (pair _ _ w) = omega arith
 one_an_end bs a b e (pair x y z) (lone_cr v _ w) = absurd (omega (arith, at bs (suc a) b 10 (omega arith) y))
@@ -91,6 +97,7 @@ one_an_end bs a b e (lone_lf x y z) (pair v u w) = absurd (y (omega arith) (at b
 one_an_end bs a b e (lone_lf x y z) (lone_cr v _ w) = omega arith
 one_an_end bs a b e (lone_lf x y z) (lone_lf _ _ w) = omega arith
 
+-- the marks of line ends keep what marks keep
 pub line_end-lawful : (bs : List ℕ) → Lawful (line_end bs) (length bs)
 line_end-lawful bs = record {
   nonempty = λ a e m. longer bs a e (line_end-is bs a e m);

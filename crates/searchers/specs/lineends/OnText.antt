@@ -14,6 +14,7 @@ line_byte-on es a e x apart some low is end =
     let on = apart a (stands (concat es) a x some is) (omega arith) in
     (on.0, subst (Boundary es) (sym end) on.1)
 
+-- so does a line end
 line_end-on : (es : List (List ℕ)) (a e : ℕ) → AsciiApart es → LineEnd (concat es) a e → Boundary es a × Boundary es e
 line_end-on es a e apart (pair x y z) =
     let begins = line_byte-on es a (suc a) 13 apart (omega arith) (omega arith) x refl in
@@ -22,5 +23,6 @@ line_end-on es a e apart (pair x y z) =
 line_end-on es a e apart (lone_cr x y z) = line_byte-on es a e 13 apart (omega arith) (omega arith) x z
 line_end-on es a e apart (lone_lf x y z) = line_byte-on es a e 10 apart (omega arith) (omega arith) x z
 
+-- and so does each of their marks
 pub line-ends_on : (es : List (List ℕ)) → AsciiApart es → Bounded es (line_end (concat es))
 line-ends_on es apart a e m = line_end-on es a e apart (line_end-is (concat es) a e m)

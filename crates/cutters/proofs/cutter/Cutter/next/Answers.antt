@@ -1,7 +1,6 @@
 use Rattle.std.proofs.Common.{◌≡◌, true, sym, refl, ap, ◌∙◌, arith, w64, SFits, rules}
 use Rattle.std.proofs.lemmas.Int.{to_z-of_z}
 use Rattle.anystr.proofs.Boundaries.{boundary_from, boundary_true}
-use Rattle.searchers.specs.Truth.{truth}
 use Rattle.cuts.specs.Cuts.{fewer}
 use Rattle.cuts.proofs.Found.{none_found, used_up}
 use Rattle.cutters.specs.Calls.{opening}
@@ -46,7 +45,7 @@ returns g c =
     let more : fewer k.progress.made k.bound ≡ true = ap (fewer k.progress.made) (sym (to_z-of_z w64 k.bound fits)) ∙ sym c.if-not-fewer.ensures in
     let m = c.in-Some.ensures in
     record {
-      step = cut_step on law k.progress.place k.progress.made k.progress.spent c.if-self.false c.in-Some.mark.start c.in-Some.mark.end (truth _ more) m.value;
+      step = cut_step on law k.progress.place k.progress.made k.progress.spent c.if-self.false c.in-Some.mark.start c.in-Some.mark.end more m.value;
       same = record { text = refl; searcher = refl; bound = refl };
       cut = (boundary_from es k.progress.place k.placed, m.cut.0);
     }
