@@ -13,7 +13,7 @@ use Rattle.searchers.specs.substring.Occurrences.{occurrence}
 use Rattle.cuts.specs.Cuts.{at_opening}
 use Rattle.cuts.specs.Splits.{pieces_of, flip, mirror, left_back}
 use Rattle.cutters.specs.Calls.{opening_of}
-use Rattle.bytesinner.specs.splits.Back.{state, left, IsOn}
+use Rattle.bytesinner.specs.splits.Back.{state, left_pieces, IsOn}
 use Rattle.bytesinner.specs.splits.Separated.{separated}
 use Rattle.bytesinner.specs.declared.splits.back.BackCutter.{BackCutter}
 
@@ -23,7 +23,7 @@ from_back bytes sep maxsplit = map (flip (length bytes)) (pieces_of (mirror (occ
 
 -- what a cutter from the end has left where it has just been opened
 pub opened-left : {S F C : Type 0} {s : AnyStr.Ghosts S C} {f : Searcher.Ghosts F S C} {text : S} {searcher : F} {bound : ℤ} (c : BackCutter S F C s f)
-    → IsOn text searcher bound c → state c ≡ at_opening → left c ≡ left_back (opening_of s f text searcher bound) at_opening
+    → IsOn text searcher bound c → state c ≡ at_opening → left_pieces c ≡ left_back (opening_of s f text searcher bound) at_opening
 opened-left {s = s} {f = f} c on first = λ i. left_back (opening_of s f (on.text i) (on.searcher i) (on.bound i)) (first i)
 
 stretches-reverse : (ps : List Place) → stretches (reverse ps) ≡ reverse (stretches ps)

@@ -13,17 +13,17 @@ use Rattle.cutters.specs.pieces.Yields.{same_opening}
 use Rattle.cutters.specs.declared.piece.Piece.{Piece}
 use Rattle.bytesinner.specs.lines.Lines.{lines_left, next_line}
 use Rattle.bytesinner.specs.lines.Step.{line_yields}
-use Rattle.bytesinner.specs.lines.Reader.{opening, state, left, LineStep}
+use Rattle.bytesinner.specs.lines.Reader.{opening, state, left_lines, LineStep}
 use Rattle.bytesinner.specs.declared.lines.reader.Lines.{Lines}
 
 module _ {S F C : Type 0} {s : AnyStr.Ghosts S C} {f : Searcher.Ghosts F S C} (l m : Lines S F C s f) where
   -- a next gives the first of the lines that are left
   pub next-yields : (r : Option Piece) → Lawful (f.marks l.cutter.searcher (s.elements l.cutter.text)) (length (concat (s.elements l.cutter.text))) → LineStep l r m
-      → YieldsFirstBy span left l r m
+      → YieldsFirstBy span left_lines l r m
   next-yields r law n =
-      subst (λ (ls : List Span). MatchOption r ((left l ≡ []) × (ls ≡ [])) (λ p. left l ≡ span p ∷ ls)) (sym after)
+      subst (λ (ls : List Span). MatchOption r ((left_lines l ≡ []) × (ls ≡ [])) (λ p. left_lines l ≡ span p ∷ ls)) (sym after)
       (seen_yields span (lines_left (opening l) l.keepends) (state l) (state m) r (next_line (opening l) l.keepends (state l)) n.step
       (line_yields (opening l) law l.keepends (state l).place (state l).made (state l).spent))
     where
-      after : left m ≡ lines_left (opening l) l.keepends (state m)
+      after : left_lines m ≡ lines_left (opening l) l.keepends (state m)
       after = λ i. lines_left (same_opening l.cutter m.cutter n.same i) (n.same_ends i) (state m)

@@ -13,7 +13,7 @@ use Rattle.cuts.proofs.Back.{back_yields}
 use Rattle.cuts.proofs.Yielding.{seen_yields}
 use Rattle.cutters.specs.Calls.{span, opening_of}
 use Rattle.cutters.specs.declared.piece.Piece.{Piece}
-use Rattle.bytesinner.specs.splits.Back.{opening, state, left, SameOpening, BackStep}
+use Rattle.bytesinner.specs.splits.Back.{opening, state, left_pieces, SameOpening, BackStep}
 use Rattle.bytesinner.specs.declared.splits.back.BackCutter.{BackCutter}
 
 module _ {S F C : Type 0} {s : AnyStr.Ghosts S C} {f : Searcher.Ghosts F S C} (c d : BackCutter S F C s f) where
@@ -22,8 +22,8 @@ module _ {S F C : Type 0} {s : AnyStr.Ghosts S C} {f : Searcher.Ghosts F S C} (c
 
   -- a next gives the first of the pieces that are left
   pub next-yields : (r : Option Piece) → Lawful (f.marks c.searcher (s.elements c.text)) (length (concat (s.elements c.text))) → BackStep c r d
-      → YieldsFirstBy span left c r d
+      → YieldsFirstBy span left_pieces c r d
   next-yields r law n =
-      subst (λ (o : Opening). MatchOption r ((left c ≡ []) × (left_back o (state d) ≡ [])) (λ p. left c ≡ span p ∷ left_back o (state d))) (sym (same_opening n.same))
+      subst (λ (o : Opening). MatchOption r ((left_pieces c ≡ []) × (left_back o (state d) ≡ [])) (λ p. left_pieces c ≡ span p ∷ left_back o (state d))) (sym (same_opening n.same))
       (seen_yields span (left_back (opening c)) (state c) (state d) r (next_back (opening c) (state c)) n.step
       (back_yields (opening c) law (state c).place (state c).made (state c).spent))

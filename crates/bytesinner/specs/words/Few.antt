@@ -17,5 +17,5 @@ runs-few from place (b ∷ bs) =
     (λ _. omega (arith, length-append (run from place) (runs_from (suc place) (suc place) bs), run_short from place, runs-few (suc place) (suc place) bs))
     (λ _. omega (arith, runs-few from (suc place) bs))
 
-pub left-few : (place : ℕ) (bytes : List ℕ) → length bytes ≤ most_bytes → length (runs_left bytes place) ≤ suc most_bytes
-left-few place bytes few = omega (arith, runs-few place place (drop place bytes), length-drop place bytes)
+pub runs_left-few : (place : ℕ) (bytes : List ℕ) → length bytes ≤ most_bytes → length (runs_left bytes place) ≤ suc most_bytes
+runs_left-few place bytes few = omega (arith, runs-few place place (drop place bytes), length-drop place bytes)

@@ -12,7 +12,7 @@ use Rattle.cuts.proofs.Yielding.{seen_yields}
 use Rattle.cutters.specs.Calls.{span}
 use Rattle.cutters.specs.declared.piece.Piece.{Piece}
 use Rattle.bytesinner.specs.words.Words.{space, run, runs_from, runs_left, first_run, next_run}
-use Rattle.bytesinner.specs.words.Runs.{bytes, left, RunStep}
+use Rattle.bytesinner.specs.words.Runs.{bytes, left_runs, RunStep}
 use Rattle.bytesinner.specs.declared.words.runs.Runs.{Runs}
 
 pub no_run : (p : ℕ) → run p p ≡ []
@@ -60,9 +60,9 @@ run_yields bytes place = by (runs_left bytes place) refl (from_end place place (
 
 module _ {S C : Type 0} (s : AnyStr.Ghosts S C) where
   -- a next gives the first of the runs that are left
-  pub next-yields : (rs : Runs S C) (r : Option Piece) (ss : Runs S C) → RunStep s rs r ss → YieldsFirstBy span (left s) rs r ss
+  pub next-yields : (rs : Runs S C) (r : Option Piece) (ss : Runs S C) → RunStep s rs r ss → YieldsFirstBy span (left_runs s) rs r ss
   next-yields rs r ss n =
-      subst (λ (ms : List Span). MatchOption r ((left s rs ≡ []) × (ms ≡ [])) (λ p. left s rs ≡ span p ∷ ms)) (λ i. runs_left (same i) ss.place)
+      subst (λ (ms : List Span). MatchOption r ((left_runs s rs ≡ []) × (ms ≡ [])) (λ p. left_runs s rs ≡ span p ∷ ms)) (λ i. runs_left (same i) ss.place)
       (seen_yields span (runs_left (bytes s rs)) rs.place ss.place r (next_run (bytes s rs) rs.place) n.step (run_yields (bytes s rs) rs.place))
     where
       same : bytes s rs ≡ bytes s ss

@@ -2,8 +2,8 @@
 ghost use Rattle.std.specs.Prelude.{◌≡◌, ◌≤◌, length, refl};
 ghost use Rattle.std.specs.Iterator.{item_count};
 ghost use Rattle.bytesinner.specs.words.Words.{space, stretch_len as stretch_of};
-ghost use Rattle.bytesinner.specs.words.Runs.{bytes, left, IsOn, RunStep};
-ghost use Rattle.bytesinner.specs.words.Few.{left-few};
+ghost use Rattle.bytesinner.specs.words.Runs.{bytes, left_runs, IsOn, RunStep};
+ghost use Rattle.bytesinner.specs.words.Few.{runs_left-few};
 ghost use Rattle.bytesinner.specs.words.Yields.{next-yields};
 
 use anystr::anystr::AnyStr;
@@ -50,7 +50,7 @@ impl<S: AnyStr> Iterator for Runs<S> {
     // the next run, and the place after it
     ghost next_gives = { RunStep S.AnyStr };
 
-    ghost remaining = { item_count (left S.AnyStr) };
+    ghost remaining = { item_count (left_runs S.AnyStr) };
 
     fn next(&mut self) -> Option<Piece> {
         let rest = self.text.as_bytes().get(self.place..)?;
@@ -67,7 +67,7 @@ impl<S: AnyStr> Iterator for Runs<S> {
 }
 
 impl<S: AnyStr> Pieces for Runs<S> {
-    ghost left = { left S.AnyStr };
+    ghost left = { left_runs S.AnyStr };
 
     ghost asked = { λ _. tt };
 
@@ -75,6 +75,6 @@ impl<S: AnyStr> Pieces for Runs<S> {
 
     ghost counts = { λ s. record {
       all = refl;
-      few = left-few s.place (bytes S.AnyStr s) (S.few s.text);
+      few = runs_left-few s.place (bytes S.AnyStr s) (S.few s.text);
     } };
 }

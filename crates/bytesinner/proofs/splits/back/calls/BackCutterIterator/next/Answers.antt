@@ -5,7 +5,7 @@ use Rattle.cuts.specs.Cuts.{size, at}
 use Rattle.cuts.proofs.Back.{back_used, back_none, back_cut}
 use Rattle.cutters.specs.Calls.{span}
 use Rattle.cutters.proofs.Yielding.{goes_on}
-use Rattle.bytesinner.specs.splits.Back.{opening, left}
+use Rattle.bytesinner.specs.splits.Back.{opening, left_pieces}
 use Rattle.bytesinner.specs.splits.Yields.{next-yields}
 use Rattle.bytesinner.proofs.splits.back.calls.BackCutterIterator.next.Goals as goal
 
@@ -40,7 +40,7 @@ returns-in_default-clause-steps g c =
 pub returns-in_default-clause-goes : goal.returns-in_default-clause-goes
 returns-in_default-clause-goes g c =
     let k = c.args.self.now in
-    goes_on span left k _ _ (next-yields k _ _ (g.met.F.Searcher.lawful k.searcher k.text) (returns-in_default-clause-steps g c))
+    goes_on span left_pieces k _ _ (next-yields k _ _ (g.met.F.Searcher.lawful k.searcher k.text) (returns-in_default-clause-steps g c))
 
 pub returns-clause-steps : goal.returns-clause-steps
 returns-clause-steps g c =
@@ -63,4 +63,4 @@ returns-clause-steps g c =
 pub returns-clause-goes : goal.returns-clause-goes
 returns-clause-goes g c =
     let k = c.args.self.now in
-    goes_on span left k _ _ (next-yields k _ _ (g.met.F.Searcher.lawful k.searcher k.text) (returns-clause-steps g c))
+    goes_on span left_pieces k _ _ (next-yields k _ _ (g.met.F.Searcher.lawful k.searcher k.text) (returns-clause-steps g c))
