@@ -1,12 +1,12 @@
 -- What the lines of a text are, as an iterator has them. Assumes nothing.
-use Rattle.std.specs.Prelude.{◌≡◌, [], ◌∷◌, length, Bool, List, Option}
+use Rattle.std.specs.Prelude.{◌≡◌, [], ◌∷◌, Bool, List, Option}
 use Rattle.std.specs.Option.{MatchOption}
-use Rattle.std.specs.List.{concat}
 use Rattle.std.specs.Iterator.{YieldsFirstBy}
 use Rattle.std.proofs.Common.{◌∙◌, ap, sym, subst}
 use Rattle.anystr.specs.declared.anystr.AnyStr
 use Rattle.searchers.specs.Marks.{Span, Lawful}
 use Rattle.searchers.specs.declared.searcher.Searcher
+use Rattle.cuts.specs.Cuts.{State, size}
 use Rattle.cuts.proofs.Yielding.{seen_yields}
 use Rattle.cutters.specs.Calls.{span}
 use Rattle.cutters.specs.pieces.Yields.{same_opening}
@@ -18,12 +18,16 @@ use Rattle.bytesinner.specs.declared.lines.reader.Lines.{Lines}
 
 module _ {S F C : Type 0} {s : AnyStr.Ghosts S C} {f : Searcher.Ghosts F S C} (l m : Lines S F C s f) where
   -- a next gives the first of the lines that are left
-  pub next-yields : (r : Option Piece) → Lawful (f.marks l.cutter.searcher (s.elements l.cutter.text)) (length (concat (s.elements l.cutter.text))) → LineStep l r m
+  pub next-yields : (r : Option Piece) → Lawful (opening l).marks (size (opening l)) → LineStep l r m
       → YieldsFirstBy span left_lines l r m
   next-yields r law n =
-      subst (λ (ls : List Span). MatchOption r ((left_lines l ≡ []) × (ls ≡ [])) (λ p. left_lines l ≡ span p ∷ ls)) (sym after)
-      (seen_yields span (lines_left (opening l) l.keepends) (state l) (state m) r (next_line (opening l) l.keepends (state l)) n.step
-      (line_yields (opening l) law l.keepends (state l).place (state l).made (state l).spent))
+      let first = line_yields (opening l) law l.keepends (state l).place (state l).made (state l).spent in
+      subst (λ (ls : List Span). MatchOption r ((left_lines l ≡ []) × (ls ≡ [])) (λ p. left_lines l ≡ span p ∷ ls))
+      (sym after)
+      (seen_yields span left_at (state l) (state m) r (next_line (opening l) l.keepends (state l)) n.step first)
     where
-      after : left_lines m ≡ lines_left (opening l) l.keepends (state m)
+      left_at : State → List Span
+      left_at = lines_left (opening l) l.keepends
+
+      after : left_lines m ≡ left_at (state m)
       after = λ i. lines_left (same_opening l.cutter m.cutter n.same i) (n.same_ends i) (state m)

@@ -1,7 +1,6 @@
 -- What the pieces of a cutter from the end are, as an iterator has them. Assumes nothing.
-use Rattle.std.specs.Prelude.{◌≡◌, [], ◌∷◌, length, Option}
+use Rattle.std.specs.Prelude.{◌≡◌, [], ◌∷◌, Option}
 use Rattle.std.specs.Option.{MatchOption}
-use Rattle.std.specs.List.{concat}
 use Rattle.std.specs.Iterator.{YieldsFirstBy}
 use Rattle.std.proofs.Common.{sym, subst}
 use Rattle.anystr.specs.declared.anystr.AnyStr
@@ -17,13 +16,17 @@ use Rattle.bytesinner.specs.splits.Back.{opening, state, left_pieces, SameOpenin
 use Rattle.bytesinner.specs.declared.splits.back.BackCutter.{BackCutter}
 
 module _ {S F C : Type 0} {s : AnyStr.Ghosts S C} {f : Searcher.Ghosts F S C} (c d : BackCutter S F C s f) where
+  -- a cutter that stays on its text, with its searcher and its bound
   pub same_opening : SameOpening c d → opening d ≡ opening c
   same_opening q = λ i. opening_of s f (q.text i) (q.searcher i) (q.bound i)
 
   -- a next gives the first of the pieces that are left
-  pub next-yields : (r : Option Piece) → Lawful (f.marks c.searcher (s.elements c.text)) (length (concat (s.elements c.text))) → BackStep c r d
+  pub next-yields : (r : Option Piece) → Lawful (opening c).marks (size (opening c)) → BackStep c r d
       → YieldsFirstBy span left_pieces c r d
   next-yields r law n =
-      subst (λ (o : Opening). MatchOption r ((left_pieces c ≡ []) × (left_back o (state d) ≡ [])) (λ p. left_pieces c ≡ span p ∷ left_back o (state d))) (sym (same_opening n.same))
-      (seen_yields span (left_back (opening c)) (state c) (state d) r (next_back (opening c) (state c)) n.step
-      (back_yields (opening c) law (state c).place (state c).made (state c).spent))
+      let first = back_yields (opening c) law (state c).place (state c).made (state c).spent in
+      subst
+      (λ (o : Opening). let ps = left_back o (state d) in
+      MatchOption r ((left_pieces c ≡ []) × (ps ≡ [])) (λ p. left_pieces c ≡ span p ∷ ps))
+      (sym (same_opening n.same))
+      (seen_yields span (left_back (opening c)) (state c) (state d) r (next_back (opening c) (state c)) n.step first)
