@@ -14,7 +14,7 @@ use Rattle.cuts.specs.Cuts.{at_opening}
 use Rattle.cuts.specs.Splits.{pieces_of, flip, mirror, left_back}
 use Rattle.cutters.specs.Calls.{opening_of}
 use Rattle.bytesinner.specs.splits.Back.{state, left_pieces, IsOn}
-use Rattle.bytesinner.specs.splits.Separated.{separated}
+use Rattle.bytesinner.specs.splits.Separated.{unless_empty}
 use Rattle.bytesinner.specs.declared.splits.back.BackCutter.{BackCutter}
 
 -- the places between the separators that are cut from the end, as they come
@@ -32,7 +32,7 @@ stretches-reverse (p ∷ ps) =
     ap stretches (reverse-cons p ps) ∙ (map_push stretch (reverse ps) p ∙ (ap (λ (qs : List Span). qs ++ stretch p ∷ []) (stretches-reverse ps) ∙ sym (reverse-cons (stretch p) (stretches ps))))
 
 -- a separator that is not empty is not refused
-pub accepted : (sep : List ℕ) (qs : List Span) (list list' : List Place) (r : Result ℕ Refusal) → 0 < length sep → Lists (Ok qs) list list' r → Lists (separated sep qs) list list' r
+pub accepted : (sep : List ℕ) (qs : List Span) (list list' : List Place) (r : Result ℕ Refusal) → 0 < length sep → Lists (Ok qs) list list' r → Lists (unless_empty sep qs) list list' r
 accepted [] qs list list' r some h = absurd (omega arith)
 accepted (b ∷ bs) qs list list' r some h = h
 

@@ -11,7 +11,7 @@ use Rattle.searchers.specs.Marks.{Span}
 use Rattle.cuts.proofs.Yielding.{seen_yields}
 use Rattle.cutters.specs.Calls.{span}
 use Rattle.cutters.specs.declared.piece.Piece.{Piece}
-use Rattle.bytesinner.specs.words.Words.{space, run, runs_from, runs_left, first_run, next_run}
+use Rattle.bytesinner.specs.words.Words.{is_space, run, runs_from, runs_left, first_run, next_run}
 use Rattle.bytesinner.specs.words.Runs.{bytes, left_runs, RunStep}
 use Rattle.bytesinner.specs.declared.words.runs.Runs.{Runs}
 
@@ -30,9 +30,9 @@ from_end from place [] =
     (λ _. (omega arith, ap (λ n. runs_from place place (drop n [])) z ∙ no_run place))
     (λ _. tt)
 from_end from place (b ∷ bs) =
-    cond_both (space b) _ _ (IsFromEnd place (b ∷ bs))
+    cond_both (is_space b) _ _ (IsFromEnd place (b ∷ bs))
     (λ is. cond_both (nat_lt from place) ((from, place) ∷ []) [] (λ rs. IsFromEnd place (b ∷ bs) (rs ++ more))
-    (λ _. (omega arith, ap (λ n. runs_from place place (drop n (b ∷ bs))) z ∙ (cond-true (space b) _ _ is ∙ ap (λ rs. rs ++ more) (no_run place))))
+    (λ _. (omega arith, ap (λ n. runs_from place place (drop n (b ∷ bs))) z ∙ (cond-true (is_space b) _ _ is ∙ ap (λ rs. rs ++ more) (no_run place))))
     (λ _. further more (from_end (suc place) (suc place) bs)))
     (λ _. further (runs_from from (suc place) bs) (from_end from (suc place) bs))
   where

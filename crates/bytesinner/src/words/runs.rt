@@ -1,7 +1,7 @@
 // The runs of a text between whitespace, one after another.
 ghost use Rattle.std.specs.Prelude.{◌≡◌, ◌≤◌, length, refl};
 ghost use Rattle.std.specs.Iterator.{item_count};
-ghost use Rattle.bytesinner.specs.words.Words.{space, stretch_len as stretch_of};
+ghost use Rattle.bytesinner.specs.words.Words.{is_space as space, stretch_len as stretch_of};
 ghost use Rattle.bytesinner.specs.words.Runs.{bytes, left_runs, IsOn, RunStep};
 ghost use Rattle.bytesinner.specs.words.Few.{runs_left-few};
 ghost use Rattle.bytesinner.specs.words.Yields.{next-yields};
