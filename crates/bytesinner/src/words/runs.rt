@@ -1,7 +1,7 @@
 // The runs of a text between whitespace, one after another.
 ghost use Rattle.std.specs.Prelude.{◌≡◌, ◌≤◌, length, refl};
 ghost use Rattle.std.specs.Iterator.{item_count};
-ghost use Rattle.bytesinner.specs.words.Words.{is_space as space, stretch_len as stretch_of};
+ghost use Rattle.bytesinner.specs.words.Words.{is_space, stretch_len};
 ghost use Rattle.bytesinner.specs.words.Runs.{bytes, left_runs, IsOn, RunStep};
 ghost use Rattle.bytesinner.specs.words.Few.{runs_left-few};
 ghost use Rattle.bytesinner.specs.words.Yields.{next-yields};
@@ -19,14 +19,14 @@ pub struct Runs<S: AnyStr> {
 
 // Whether a byte is whitespace.
 fn is_space(byte: u8) -> bool
-    ensures { result ≡ space byte }
+    ensures { result ≡ is_space byte }
 {
     matches!(byte, b' ' | b'\t' | b'\n' | 0x0c | b'\r' | 0x0b)
 }
 
 // How many bytes at the front are whitespace, or, where `spaces` is false, are none.
 fn stretch_len(bytes: &[u8], spaces: bool) -> usize
-    ensures value { result ≡ stretch_of bytes.now spaces }
+    ensures value { result ≡ stretch_len bytes.now spaces }
     ensures within { result ≤ length bytes.now }
 {
     bytes
