@@ -1,5 +1,6 @@
 -- Where a needle stands, by the definitions and by what a search of a part answers.
-use Rattle.std.proofs.Common.{◌≡◌, ℕ, suc, ◌+◌, ◌-◌, ◌<◌, ◌≤◌, Bool, true, false, cond, T, leb, List, [], ◌∷◌, length, take, drop, Some, None, Option, sym, refl, ap, ◌∙◌, ⊎_elim, le_refl, arith, length-take}
+use Rattle.std.proofs.Common.{◌≡◌, ℕ, suc, ◌+◌, ◌-◌, ◌<◌, ◌≤◌, Bool, true, false, cond, T, leb, List, [], ◌∷◌, length}
+use Rattle.std.proofs.Common.{take, drop, Some, None, Option, sym, refl, ap, ◌∙◌, ⊎_elim, le_refl, arith, length-take}
 use Rattle.std.specs.Option.{option_or}
 use Rattle.std.proofs.lemmas.List.{take-take, nil_from_length}
 use Rattle.std.proofs.lemmas.Bool.{both_ways, cases_eq, cond_both, leb-true, leb-false, lt-ltb, eq-eqb, and_from}
@@ -9,7 +10,8 @@ use Rattle.searchers.specs.Truth.{truth}
 use Rattle.searchers.specs.substring.Occurrences.{begins_with, occurrence, occurrence-is, taken}
 use Rattle.searchers.proofs.substring.Needles.{begun}
 use Rattle.anystr.specs.Places.{part}
-use Rattle.bytesinner.specs.finds.Places.{first_place, last_place, find_of, rfind_of, Stands, Nowhere, FirstPlace, LastPlace}
+use Rattle.bytesinner.specs.finds.Places.{first_place, last_place, find_of, rfind_of, Stands, Nowhere, FirstPlace}
+use Rattle.bytesinner.specs.finds.Places.{LastPlace}
 use Rattle.bytesinner.proofs.finds.Parts.{length_part, drop-part}
 
 module _ (bs n : List ℕ) (b : ℕ) (within : b ≤ length bs) where

@@ -1,12 +1,16 @@
 -- The lines of a text are what one reads line by line.
-use Rattle.std.proofs.Common.{◌≡◌, ℕ, suc, ◌+◌, ◌-◌, ◌<◌, ◌≤◌, true, false, not, ◌&&◌, eqb, ltb, ◌⊎◌, List, [], ◌∷◌, ◌++◌, map, length, get_or, take, drop, negsuc, sym, refl, ap, ◌∙◌, subst, inl, inr, ⊎_elim, append-nil, arith}
+use Rattle.std.proofs.Common.{◌≡◌, ℕ, suc, ◌+◌, ◌-◌, ◌<◌, ◌≤◌, true, false, not, ◌&&◌, eqb, ltb, ◌⊎◌, List, [], ◌∷◌}
+use Rattle.std.proofs.Common.{◌++◌, map, length, get_or, take, drop, negsuc, sym, refl, ap, ◌∙◌, subst, inl, inr}
+use Rattle.std.proofs.Common.{⊎_elim, append-nil, arith}
 use Rattle.std.specs.List.{concat}
 use Rattle.std.proofs.lemmas.List.{drop-drop, take-append-drop, take_rest, drop_all}
-use Rattle.std.proofs.lemmas.Bool.{eq-eqb, ne_eqb, ltb-true, ltb-false, le-ltb, and_from, and_left, and_right, or_left, or_right, not_from_false, cases_lt, cases_eq, cond_both}
+use Rattle.std.proofs.lemmas.Bool.{eq-eqb, ne_eqb, ltb-true, ltb-false, le-ltb, and_from, and_left, and_right, or_left}
+use Rattle.std.proofs.lemmas.Bool.{or_right, not_from_false, cases_lt, cases_eq, cond_both}
 use Rattle.anystr.specs.Places.{part}
 use Rattle.searchers.specs.Marks.{Span}
 use Rattle.searchers.specs.Truth.{truth}
-use Rattle.searchers.specs.lineends.Lines.{cr, lf, line_end, LineEnd, pair, lone_cr, lone_lf, line_end-is, line_end-lawful}
+use Rattle.searchers.specs.lineends.Lines.{cr, lf, line_end, LineEnd, pair, lone_cr, lone_lf, line_end-is}
+use Rattle.searchers.specs.lineends.Lines.{line_end-lawful}
 use Rattle.cuts.specs.Cuts.{between, cuts, all_marks}
 use Rattle.cuts.proofs.Greedy.{Greedy}
 use Rattle.cuts.proofs.Listed.{greedy_cuts}

@@ -1,5 +1,6 @@
 -- The law of replace.
-use Rattle.std.proofs.Common.{◌≡◌, ℕ, suc, ◌+◌, ◌*◌, ◌≤◌, List, length, ℤ, pos, Ok, refl, ap, ◌∙◌, ⊎_elim, mul-le-mul, arith}
+use Rattle.std.proofs.Common.{◌≡◌, ℕ, suc, ◌+◌, ◌*◌, ◌≤◌, List, length, ℤ, pos, Ok, refl, ap, ◌∙◌, ⊎_elim, mul-le-mul}
+use Rattle.std.proofs.Common.{arith}
 use Rattle.std.specs.List.{concat}
 use Rattle.std.proofs.lemmas.Bool.{cond-true, cond-false, eq-eqb, ne_eqb, le-leb, cases_eq}
 use Rattle.anystr.specs.Elements.{Filled}
@@ -8,8 +9,10 @@ use Rattle.searchers.specs.substring.Occurrences.{occurrence, occurrence-lawful}
 use Rattle.cuts.specs.Cuts.{all_marks, cut_from, poured}
 use Rattle.cuts.proofs.Sizes.{cuts-within, poured-within}
 use Rattle.bytesinner.specs.Openings.{opening_at}
-use Rattle.bytesinner.specs.replaces.Replaces.{most_result, spread_text, copy_count, poured_text, replaced_text, if_short, ReplaceLaw}
-use Rattle.bytesinner.proofs.replaces.Spreading.{spread_text-with_copies, length-with_copies, spread_none, copy_count-few}
+use Rattle.bytesinner.specs.replaces.Replaces.{most_result, spread_text, copy_count, poured_text, replaced_text}
+use Rattle.bytesinner.specs.replaces.Replaces.{if_short, ReplaceLaw}
+use Rattle.bytesinner.proofs.replaces.Spreading.{spread_text-with_copies, length-with_copies, spread_none}
+use Rattle.bytesinner.proofs.replaces.Spreading.{copy_count-few}
 use Rattle.bytesinner.proofs.replaces.Cutting.{no_cuts, poured-joined}
 use Rattle.bytesinner.proofs.replaces.Walking.{count-within}
 

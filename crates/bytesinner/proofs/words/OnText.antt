@@ -1,5 +1,6 @@
 -- The words of a text lie on boundaries where bytes below 128 stand apart.
-use Rattle.std.proofs.Common.{◌≡◌, ℕ, zero, suc, ◌-◌, ◌<◌, ◌≤◌, true, ltb, List, [], ◌∷◌, length, take, drop, ℤ, Ok, Result, sym, refl, ap, ◌∙◌, subst, ⊎_elim, arith, length-append, take-append-drop}
+use Rattle.std.proofs.Common.{◌≡◌, ℕ, zero, suc, ◌-◌, ◌<◌, ◌≤◌, true, ltb, List, [], ◌∷◌, length, take, drop, ℤ, Ok}
+use Rattle.std.proofs.Common.{Result, sym, refl, ap, ◌∙◌, subst, ⊎_elim, arith, length-append, take-append-drop}
 use Rattle.std.specs.List.{concat}
 use Rattle.std.proofs.lemmas.Bool.{cases_lt, cond_both}
 use Rattle.std.proofs.lemmas.List.Folds.{concat-append}
@@ -11,7 +12,8 @@ use Rattle.searchers.specs.Ascii.{AsciiApart}
 use Rattle.searchers.specs.Marks.{Span}
 use Rattle.anystr.proofs.Boundaries.{end_on}
 use Rattle.bytesinner.specs.Written.{OfWritten, Cuttable}
-use Rattle.bytesinner.specs.words.Words.{is_space, runs, lone_count, to_end, from_start, words_of, rwords_of, Run, AllRuns}
+use Rattle.bytesinner.specs.words.Words.{is_space, runs, lone_count, to_end, from_start, words_of, rwords_of, Run}
+use Rattle.bytesinner.specs.words.Words.{AllRuns}
 use Rattle.bytesinner.proofs.Written.{written, cuttable-nil, cuttable-cons, cuttable-head, cuttable-tail}
 use Rattle.bytesinner.proofs.words.Longest.{all_runs}
 

@@ -1,5 +1,6 @@
 -- The lines of a text, without and with their ends. Assumes nothing.
-use Rattle.std.specs.Prelude.{◌≡◌, ℕ, ◌<◌, ◌≤◌, Bool, true, false, if◌then◌else◌, List, [], ◌∷◌, map, length, None, Option}
+use Rattle.std.specs.Prelude.{◌≡◌, ℕ, ◌<◌, ◌≤◌, Bool, true, false, if◌then◌else◌, List, [], ◌∷◌, map, length, None}
+use Rattle.std.specs.Prelude.{Option}
 use Rattle.std.specs.Prelude.{◌≢◌, nat_lt, slice_index}
 use Rattle.std.specs.List.{concat}
 use Rattle.std.specs.Option.{option_map}

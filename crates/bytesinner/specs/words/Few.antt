@@ -17,7 +17,9 @@ runs_from-few from place [] = omega (arith, run-few from place)
 runs_from-few from place (b ∷ bs) =
     let more : List Span = runs_from (suc place) (suc place) bs in
     cond_both (is_space b) _ _ (λ (ms : List Span). length ms ≤ suc (suc (length bs)))
-    (λ _. omega (arith, length-append (run from place) more, run-few from place, runs_from-few (suc place) (suc place) bs))
+    (λ _.
+    let few = runs_from-few (suc place) (suc place) bs in
+    omega (arith, length-append (run from place) more, run-few from place, few))
     (λ _. omega (arith, runs_from-few from (suc place) bs))
 
 -- no more runs are left than a text can have

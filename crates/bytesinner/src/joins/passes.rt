@@ -33,7 +33,8 @@ impl<'a, S: AnyStr> Parts<'a, S> {
     pub(super) fn pour<T: AnyStrContainer>(&self, tray: &mut T)
         requires good { bad_part self.now ≡ None }
         requires fits { length (joined_parts self.now) ≤ length (T.contents tray.old).spare }
-        ensures gained { T.contents tray.new ≡ gained (T.contents tray.old) (joined_parts self.now) }
+        ensures gained { T.contents tray.new
+            ≡ gained (T.contents tray.old) (joined_parts self.now) }
         ensures same_loan { T.loan tray.new ≡ T.loan tray.old }
     {
         for (index, place) in self.places.iter().enumerate() {

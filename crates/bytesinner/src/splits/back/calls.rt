@@ -4,7 +4,8 @@ ghost use Rattle.std.specs.Iterator.{item_count};
 ghost use Rattle.searchers.specs.Marks.{OnBoundaries};
 ghost use Rattle.cuts.specs.Cuts.{at_opening};
 ghost use Rattle.cuts.proofs.Back.{back_few};
-ghost use Rattle.bytesinner.specs.splits.Back.{opening, state, left_pieces, IsOn, BackStep, CutsNext};
+ghost use Rattle.bytesinner.specs.splits.Back.{opening, state, left_pieces};
+ghost use Rattle.bytesinner.specs.splits.Back.{IsOn, BackStep, CutsNext};
 ghost use Rattle.bytesinner.specs.splits.Yields.{next-yields};
 
 use super::BackCutter;
