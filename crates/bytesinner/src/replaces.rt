@@ -3,7 +3,7 @@
 ghost use Rattle.std.specs.Prelude.{◌≡◌, ◌≤◌, length};
 ghost use Rattle.anystr.specs.Texts.{bytes_of};
 ghost use Rattle.trays.specs.Trays.{Fills, gained};
-ghost use Rattle.bytesinner.specs.replaces.Replaces.{bound_of, copies as copies_of, if_short};
+ghost use Rattle.bytesinner.specs.replaces.Replaces.{bound_of, copy_count, if_short};
 ghost use Rattle.bytesinner.specs.replaces.Replaces.{replace_of, ReplaceLaw};
 ghost use Rattle.bytesinner.specs.replaces.Replacements.{marks_replaced, copies_spread};
 ghost use Rattle.bytesinner.specs.replaces.Replacements.{all_replaced};
@@ -44,7 +44,7 @@ impl<S: AnyStr> Replacement<S> {
 
     // The copies of `to` before the elements of the text and at its end.
     fn copies(&self) -> u64
-        ensures { result ≡ copies_of (length (S.elements self.now.text)) self.now.bound }
+        ensures { result ≡ copy_count (length (S.elements self.now.text)) self.now.bound }
     {
         let gaps = self.text.element_count() as u64 + 1;
         u64::try_from(self.bound).map_or(gaps, |bound| gaps.min(bound))
@@ -53,7 +53,7 @@ impl<S: AnyStr> Replacement<S> {
     // The bytes that the text takes with these copies of `to`, which are counted once: that goes
     // over the text.
     fn measure(&self, copies: u64) -> u64
-        requires { copies ≡ copies_of (length (S.elements self.now.text)) self.now.bound }
+        requires { copies ≡ copy_count (length (S.elements self.now.text)) self.now.bound }
         ensures { result ≡ length (copies_spread S.AnyStr self.now) }
     {
         self.text.bytes_len() as u64 + copies * self.to.bytes_len() as u64
@@ -62,7 +62,7 @@ impl<S: AnyStr> Replacement<S> {
     // Appends the text, which fits, with these copies of `to`: one before each element, and the
     // last at the end.
     fn spread_copies<T: AnyStrContainer>(&self, copies: u64, tray: &mut T)
-        requires count { copies ≡ copies_of (length (S.elements self.now.text)) self.now.bound }
+        requires count { copies ≡ copy_count (length (S.elements self.now.text)) self.now.bound }
         requires fits { length (copies_spread S.AnyStr self.now)
             ≤ length (T.contents tray.old).spare }
         ensures gained { T.contents tray.new

@@ -1,7 +1,8 @@
 // A row with one text in place of another, written into a caller's memory.
 ghost use Rattle.std.specs.Prelude.{◌≡◌, take, drop};
 ghost use Rattle.anystr.specs.Texts.{bytes_of};
-ghost use Rattle.bytesinner.specs.replaces.Replaces.{replace_of, unbounded};
+ghost use Rattle.bytesinner.specs.Openings.{unbounded};
+ghost use Rattle.bytesinner.specs.replaces.Replaces.{replace_of};
 ghost use Rattle.callers.specs.Replaced.{IsOverwritten};
 
 use anystr::anystr::AnyStr;

@@ -1,3 +1,2 @@
 pub mod Gains
 pub mod LabelWrites
-pub mod Writes

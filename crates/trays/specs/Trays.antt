@@ -34,12 +34,14 @@ IsFilled (Ok bytes) tray tray' (Err c) =
     (length tray.spare < length bytes) × (c ≡ code (TooSmall (length bytes))) × (tray' ≡ tray)
 
 -- the same of a tray of a type, by what such trays hold and have spare
-abbrev pub Fills : {Tray X : Type 0} → (Tray → Contents) → Result (List ℕ) (ℕ × ℕ) → Tray → Tray → Result X Refusal → Type 0
+abbrev pub Fills : {Tray X : Type 0} → (Tray → Contents) → Result (List ℕ) (ℕ × ℕ) → (tray tray' : Tray)
+    → Result X Refusal → Type 0
 Fills contents expected tray tray' r = IsFilled expected (contents tray) (contents tray') (coded r)
 
 -- Bytes written behind the first `len` of some bytes; the answer is how many are held then.
 abbrev pub Puts : (new : List ℕ) (len : ℕ) (bytes bytes' : List ℕ) → Result ℕ Refusal → Type 0
 Puts new len bytes bytes' (Ok end) =
-    (end ≡ len + length new) × (length new ≤ length (drop len bytes)) × (holding end bytes' ≡ gained (holding len bytes) new)
+    (end ≡ len + length new) × (length new ≤ length (drop len bytes))
+    × (holding end bytes' ≡ gained (holding len bytes) new)
 Puts new len bytes bytes' (Err e) =
     (length (drop len bytes) < length new) × (code e ≡ code (TooSmall (length new))) × (bytes' ≡ bytes)

@@ -1,5 +1,6 @@
 -- What options mean, where they are not refused.
-use Rattle.std.proofs.Common.{◌≡◌, ℕ, ◌<◌, ◌≤◌, Bool, true, false, cond, eqb, leb, List, [], ◌∷◌, length, ℤ, Some, None, Ok, Err, Option, Result, sym, refl, ap, ◌∙◌, arith, Bor}
+use Rattle.std.proofs.Common.{◌≡◌, ℕ, ◌<◌, ◌≤◌, Bool, true, false, cond, eqb, leb, List, [], ◌∷◌, length, ℤ, Some, None}
+use Rattle.std.proofs.Common.{Ok, Err, Option, Result, sym, refl, ap, ◌∙◌, arith, Bor}
 use Rattle.std.proofs.lemmas.Bool.{eqb-true, eqb-false, leb-true}
 use Rattle.std.specs.List.{concat}
 use Rattle.anystr.specs.Indices.{start_of, end_of}
@@ -12,7 +13,8 @@ use Rattle.bytesinner.specs.declared.finds.either.Either.{Either}
 use Rattle.bytesinner.specs.declared.finds.either.Either.TheVariants.{A, B}
 use Rattle.bytesinner.specs.declared.finds.options.ByteInnerFindOptions.{ByteInnerFindOptions}
 use Rattle.bytesinner.specs.declared.finds.stretch.Stretch.{Stretch}
-use Rattle.bytesinner.specs.finds.Asked.{byte_of, byte_needle, sub_of, for_needle, answer_in, answer_of, Target, target, Kept, Keeps, Meant}
+use Rattle.bytesinner.specs.finds.Asked.{byte_of, byte_needle, sub_of, for_needle, answer_in, answer_of, Target, target}
+use Rattle.bytesinner.specs.finds.Asked.{Kept, Keeps, Meant}
 
 -- an end that is meant is within the text
 pub end-within : (end : Option ℤ) (len : ℕ) → end_of end len ≤ len

@@ -1,5 +1,6 @@
 -- Where a needle stands, by the definitions and by what a search of a part answers.
-use Rattle.std.proofs.Common.{◌≡◌, ℕ, suc, ◌+◌, ◌-◌, ◌<◌, ◌≤◌, Bool, true, false, cond, IsTrue, leb, List, [], ◌∷◌, length, take, drop, Some, None, Option, sym, refl, ap, ◌∙◌, ⊎_elim, le_refl, arith, length-take}
+use Rattle.std.proofs.Common.{◌≡◌, ℕ, suc, ◌+◌, ◌-◌, ◌<◌, ◌≤◌, Bool, true, false, cond, IsTrue, leb, List, [], ◌∷◌, length}
+use Rattle.std.proofs.Common.{take, drop, Some, None, Option, sym, refl, ap, ◌∙◌, ⊎_elim, le_refl, arith, length-take}
 use Rattle.std.specs.Option.{option_or}
 use Rattle.std.proofs.lemmas.List.{take-take, nil_from_length}
 use Rattle.std.proofs.lemmas.Bool.{both_ways, cases_eq, cond_both, leb-true, leb-false, lt-ltb, eq-eqb, and_from}
@@ -8,7 +9,8 @@ use Rattle.searchers.specs.Marks.{Least, Greatest, NoneFrom, NoneBefore}
 use Rattle.searchers.specs.substring.Occurrences.{begins_with, occurrence, occurrence-is, taken}
 use Rattle.searchers.proofs.substring.Needles.{begun}
 use Rattle.anystr.specs.Places.{part}
-use Rattle.bytesinner.specs.finds.Places.{first_place, last_place, find_of, rfind_of, Stands, Nowhere, FirstPlace, LastPlace}
+use Rattle.bytesinner.specs.finds.Places.{first_place, last_place, find_of, rfind_of, Stands, Nowhere, FirstPlace}
+use Rattle.bytesinner.specs.finds.Places.{LastPlace}
 use Rattle.bytesinner.proofs.finds.Parts.{length_part, drop-part}
 
 module _ (bs n : List ℕ) (b : ℕ) (within : b ≤ length bs) where
@@ -119,7 +121,7 @@ module _ (bs n : List ℕ) (b : ℕ) (within : b ≤ length bs) where
         let back : a + (p - a) ≡ p = omega (arith, s.after) in
         let begins : begins_with n (drop (p - a) (part bs (a, b))) ≡ true =
         ap (begins_with n) (drop-part bs a b (p - a) (omega (arith, s.after, s.ahead)) ∙ ap (λ q. part bs (q, b)) back) ∙ stood a p s in
-        and_from _ _ (lt-ltb 0 (length n) some) (and_from _ _ (eq-eqb _ _ refl) begins)
+        (and_from _ _ (lt-ltb 0 (length n) some) (and_from _ _ (eq-eqb _ _ refl) begins))
 
     -- a mark of the part is a place
     at_mark : (s e : ℕ) → IsTrue (occurrence n (part bs (a, b)) s e) → Stands bs n a b (a + s)

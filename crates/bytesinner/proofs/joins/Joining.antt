@@ -1,5 +1,7 @@
 -- What comes in a join from one of its places on, and how many bytes a join can take.
-use Rattle.std.proofs.Common.{◌≡◌, ℕ, zero, suc, ◌+◌, ◌-◌, ◌*◌, ◌^◌, ◌<◌, ◌≤◌, List, [], ◌∷◌, ◌++◌, map, length, get_or, drop, Some, None, Ok, Result, sym, refl, ap, ◌∙◌, append-nil, suc-mul, mul-le-mul, zero-mul, add-one, arith, length-append, length-drop, length-take}
+use Rattle.std.proofs.Common.{◌≡◌, ℕ, zero, suc, ◌+◌, ◌-◌, ◌*◌, ◌^◌, ◌<◌, ◌≤◌, List, [], ◌∷◌, ◌++◌, map, length, get_or}
+use Rattle.std.proofs.Common.{drop, Some, None, Ok, Result, sym, refl, ap, ◌∙◌, append-nil, suc-mul, mul-le-mul}
+use Rattle.std.proofs.Common.{zero-mul, add-one, arith, length-append, length-drop, length-take}
 use Rattle.std.specs.List.{concat}
 use Rattle.std.proofs.lemmas.List.{drop_more, length-map}
 use Rattle.anystr.specs.Elements.{Cut}

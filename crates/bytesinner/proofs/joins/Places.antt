@@ -1,5 +1,6 @@
 -- Places in a text: what the tests of boundaries and of places say.
-use Rattle.std.proofs.Common.{◌≡◌, ℕ, suc, ◌-◌, true, List, ◌∷◌, length, drop, Some, None, sym, ◌∙◌, ⊎_elim, arith, length-drop, length-take}
+use Rattle.std.proofs.Common.{◌≡◌, ℕ, suc, ◌-◌, true, List, ◌∷◌, length, drop, Some, None, sym, ◌∙◌, ⊎_elim, arith}
+use Rattle.std.proofs.Common.{length-drop, length-take}
 use Rattle.std.specs.List.{concat}
 use Rattle.std.proofs.lemmas.Bool.{cond-true, cond-false, le-leb, leb-true, and_parts, and_from, cases_Bool}
 use Rattle.anystr.specs.Elements.{Cut}

@@ -1,14 +1,20 @@
 -- The lines of a text are what one reads line by line.
-use Rattle.std.proofs.Common.{◌≡◌, ℕ, suc, ◌+◌, ◌-◌, ◌<◌, ◌≤◌, true, false, not, ◌&&◌, eqb, ltb, ◌⊎◌, List, [], ◌∷◌, ◌++◌, length, get_or, take, drop, negsuc, sym, refl, ap, ◌∙◌, subst, inl, inr, ⊎_elim, append-nil, arith}
+use Rattle.std.proofs.Common.{◌≡◌, ℕ, suc, ◌+◌, ◌-◌, ◌<◌, ◌≤◌, true, false, not, ◌&&◌, eqb, ltb, ◌⊎◌, List, [], ◌∷◌}
+use Rattle.std.proofs.Common.{◌++◌, map, length, get_or, take, drop, negsuc, sym, refl, ap, ◌∙◌, subst, inl, inr}
+use Rattle.std.proofs.Common.{⊎_elim, append-nil, arith}
+use Rattle.std.specs.List.{concat}
 use Rattle.std.proofs.lemmas.List.{drop-drop, take-append-drop, take_rest, drop_all}
-use Rattle.std.proofs.lemmas.Bool.{eq-eqb, ne_eqb, ltb-true, ltb-false, le-ltb, and_from, and_left, and_right, or_left, or_right, not_from_false, cases_lt, cases_eq, cond_both}
+use Rattle.std.proofs.lemmas.Bool.{eq-eqb, ne_eqb, ltb-true, ltb-false, le-ltb, and_from, and_left, and_right, or_left}
+use Rattle.std.proofs.lemmas.Bool.{or_right, not_from_false, cases_lt, cases_eq, cond_both}
+use Rattle.anystr.specs.Places.{part}
 use Rattle.searchers.specs.Marks.{Span}
-use Rattle.searchers.specs.lineends.Lines.{cr, lf, line_end, LineEnd, pair, lone_cr, lone_lf, line_end-is, line_end-lawful}
+use Rattle.searchers.specs.lineends.Lines.{cr, lf, line_end, LineEnd, pair, lone_cr, lone_lf, line_end-is}
+use Rattle.searchers.specs.lineends.Lines.{line_end-lawful}
 use Rattle.cuts.specs.Cuts.{between, cuts, all_marks}
 use Rattle.cuts.proofs.Greedy.{Greedy}
 use Rattle.cuts.proofs.Listed.{greedy_cuts}
-use Rattle.bytesinner.specs.lines.Lines.{filled, kept, Bare, Reads, ended, line, last, bytes_of, LinesLaw}
-use Rattle.bytesinner.specs.lines.Step.{filled-cons, starts}
+use Rattle.bytesinner.specs.lines.Lines.{filled_pieces, with_ends, Bare, Reads, ended, line, last, LinesLaw}
+use Rattle.bytesinner.specs.lines.Step.{filled_pieces-cons, starts}
 
 -- each of the three is a mark
 pub is-mark : (bs : List ℕ) (a e : ℕ) → LineEnd bs a e → line_end bs a e ≡ true
@@ -48,28 +54,28 @@ module _ (bs : List ℕ) (p e : ℕ) (apart : Apart bs p) (none : (b d : ℕ) �
   bare k ge lt = (no_lf k ge lt, no_cr k ge lt)
 
 reads-from : (bs : List ℕ) (n p : ℕ) (ms : List Span) → Greedy (line_end bs) (negsuc 0) n p ms (length bs) → Apart bs p
-    → Reads bs p (filled (between p (length bs) ms)) (kept (length bs) (filled (between p (length bs) ms)))
+    → Reads bs p (filled_pieces (between p (length bs) ms)) (with_ends (length bs) (filled_pieces (between p (length bs) ms)))
 reads-from bs n p [] g apart =
-    cond_both (ltb p (length bs)) ((p, length bs) ∷ []) [] (λ (ls : List Span). Reads bs p ls (kept (length bs) ls))
-    (λ is. last (ltb-true p (length bs) is) (bare bs p (length bs) apart (λ b d ge lt m. g.1 refl b d (is-mark bs b d m) ge lt)))
+    cond_both (ltb p (length bs)) ((p, length bs) ∷ []) [] (λ (ls : List Span). Reads bs p ls (with_ends (length bs) ls))
+    (λ is. last (ltb-true p (length bs) is) (bare bs p (length bs) apart (λ b d ge lt m. g.1 refl b d ((is-mark bs b d m)) ge lt)))
     (λ no. ended (omega (arith, ltb-false p (length bs) no, g.0)))
 reads-from bs n p (m ∷ ms) g apart =
     let least = g.0 in
     let len : ℕ = length bs in
     let end : LineEnd bs m.0 m.1 = line_end-is bs m.0 m.1 least.is in
-    let others : List Span = filled (between m.1 len ms) in
-    let none : (b d : ℕ) → p ≤ b → b < m.0 → LineEnd bs b d → ⊥ = λ b d ge lt k. let le = least.least b d ge (is-mark bs b d k) in omega arith in
+    let others : List Span = filled_pieces (between m.1 len ms) in
+    let none : (b d : ℕ) → p ≤ b → b < m.0 → LineEnd bs b d → ⊥ = λ b d ge lt k. let le = least.least b d ge ((is-mark bs b d k)) in omega arith in
     let rest = reads-from bs (suc n) m.1 ms g.2 (apart_after bs m.0 m.1 end) in
-    let here : Reads bs p ((p, m.0) ∷ others) ((p, m.1) ∷ kept len others) = line least.after (bare bs p m.0 apart none) end rest in
+    let here : Reads bs p ((p, m.0) ∷ others) ((p, m.1) ∷ with_ends len others) = line least.after (bare bs p m.0 apart none) end rest in
     let begins = starts m.1 len ms ((line_end-lawful bs).within m.0 m.1 least.is) in
-    subst (λ (ls : List Span). Reads bs p ls (kept len ls)) (sym (filled-cons (p, m.0) m.1 len ms))
-    (subst (λ (k : ℕ). Reads bs p ((p, m.0) ∷ others) ((p, k) ∷ kept len others)) (sym begins) here)
+    subst (λ (ls : List Span). Reads bs p ls (with_ends len ls)) (sym (filled_pieces-cons (p, m.0) m.1 len ms))
+    (subst (λ (k : ℕ). Reads bs p ((p, m.0) ∷ others) ((p, k) ∷ with_ends len others)) (sym begins) here)
 
 -- the lines with their ends make up the bytes
-whole_from : (bs : List ℕ) {p : ℕ} {ls ks : List Span} → Reads bs p ls ks → bytes_of bs ks ≡ drop p bs
+whole_from : (bs : List ℕ) {p : ℕ} {ls ks : List Span} → Reads bs p ls ks → concat (map (part bs) ks) ≡ drop p bs
 whole_from bs {p} (ended is) = sym (drop_all p bs (omega arith))
 whole_from bs {p} (line {a = a} {e = e} from clear end more) =
-    let mark = is-mark bs a e end in
+    let mark = (is-mark bs a e end) in
     let long = (line_end-lawful bs).nonempty a e mark in
     let z : p + (e - p) ≡ e = omega arith in
     ap (λ (xs : List ℕ). take (e - p) (drop p bs) ++ xs) (whole_from bs more ∙ ap (λ (j : ℕ). drop j bs) (sym z) ∙ sym (drop-drop (e - p) p bs)) ∙ take-append-drop (e - p) (drop p bs)

@@ -14,8 +14,8 @@ use Rattle.trays.specs.Trays.{Contents, Fills, IsFilled}
 use Rattle.cuts.specs.Cuts.{Opening, State, at_opening, needed, pour_of}
 use Rattle.cutters.specs.Calls.{opening, state, Pours}
 use Rattle.cutters.specs.declared.cutter.Cutter.{Cutter}
-use Rattle.bytesinner.specs.replaces.Replaces.{most_result, bound_of, spread, copies, cut_out, if_short}
-use Rattle.bytesinner.proofs.replaces.Law.{spread-long, spread-within, cut-within, short, is-short}
+use Rattle.bytesinner.specs.replaces.Replaces.{most_result, bound_of, spread_text, copy_count, poured_text, if_short}
+use Rattle.bytesinner.proofs.replaces.Law.{spread_text-long, spread_text-within, cut-within, short, is-short}
 
 -- a pour from a cutter that was just opened
 pub opened_pour : {S F C Tray : Type 0} {s : AnyStr.Ghosts S C} {f : Searcher.Ghosts F S C} (contents : Tray → Contents)
@@ -34,18 +34,18 @@ fills bytes all tray tray' r same le p = rw (same, is-short all le) p
 
 -- the sum that the code forms
 module _ (es : List (List ℕ)) (to : List ℕ) (bound : ℤ) (n len gap : ℕ)
-    (count : n ≡ copies (length es) bound) (bytes : len ≡ length (concat es)) (each : gap ≡ length to) where
-  pub spread-sum : len + n * gap ≡ length (spread to bound 0 es)
-  spread-sum = rw (count, bytes, each) (sym (spread-long es to bound))
+    (count : n ≡ copy_count (length es) bound) (bytes : len ≡ length (concat es)) (each : gap ≡ length to) where
+  pub spread_text-sum : len + n * gap ≡ length (spread_text to bound 0 es)
+  spread_text-sum = rw (count, bytes, each) (sym (spread_text-long es to bound))
 
-  pub spread-fits : Filled es → length (concat es) ≤ most_bytes → length to ≤ most_bytes → len + n * gap ≤ most_result
-  spread-fits filled few some = rw spread-sum (short (spread to bound 0 es) (concat es) to few some (spread-within es to bound filled))
+  pub spread_text-fits : Filled es → length (concat es) ≤ most_bytes → length to ≤ most_bytes → len + n * gap ≤ most_result
+  spread_text-fits filled few some = rw spread_text-sum (short (spread_text to bound 0 es) (concat es) to few some (spread_text-within es to bound filled))
 
 -- what is cut out is within the limits
 pub cut_short : (es : List (List ℕ)) (from to : List ℕ) (bound : ℤ) → length (concat es) ≤ most_bytes
-    → length to ≤ most_bytes → length (cut_out es from to bound) ≤ most_result
+    → length to ≤ most_bytes → length (poured_text es from to bound) ≤ most_result
 cut_short es from to bound few some =
-    short (cut_out es from to bound) (concat es) to few some (cut-within es from to bound)
+    short (poured_text es from to bound) (concat es) to few some (cut-within es from to bound)
 
 -- the bound of maxcount 0
 pub bound-zero : (maxcount : OptionalArg ℤ) (z : ℤ) → maxcount ≡ Present z → z ≡ pos 0 → bound_of maxcount ≡ pos 0

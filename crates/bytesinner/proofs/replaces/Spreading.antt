@@ -1,58 +1,60 @@
 -- Copies spread among elements.
-use Rattle.std.proofs.Common.{◌≡◌, ℕ, zero, suc, ◌+◌, ◌*◌, ◌<◌, ◌≤◌, min, Bool, true, false, cond, if◌then◌else◌, List, [], ◌∷◌, ◌++◌, length, ℤ, pos, negsuc, sym, refl, ap, ◌∙◌, ⊎_elim, suc-mul, arith, append-nil, append_assoc, length-append}
+use Rattle.std.proofs.Common.{◌≡◌, ℕ, zero, suc, ◌+◌, ◌*◌, ◌<◌, ◌≤◌, min, Bool, true, false, cond, if◌then◌else◌, List}
+use Rattle.std.proofs.Common.{[], ◌∷◌, ◌++◌, length, ℤ, pos, negsuc, sym, refl, ap, ◌∙◌, ⊎_elim, suc-mul, arith}
+use Rattle.std.proofs.Common.{append-nil, append_assoc, length-append}
 use Rattle.std.proofs.Math.Dec.{leb-suc-suc}
 use Rattle.std.specs.List.{concat}
 use Rattle.std.proofs.lemmas.Bool.{lt-ltb, le-ltb, cases_lt}
 use Rattle.cuts.specs.Cuts.{fewer}
-use Rattle.bytesinner.specs.replaces.Replaces.{spread, copies, with_copies}
+use Rattle.bytesinner.specs.replaces.Replaces.{spread_text, copy_count, with_copies}
 
 nothing : (b : Bool) → ◌≡◌ {A = List ℕ} (cond b [] []) []
 nothing true = refl
 nothing false = refl
 
-copies-fewer : (n : ℕ) (bound : ℤ) (j : ℕ) → j ≤ n → fewer j bound ≡ fewer j (pos (copies n bound))
-copies-fewer n (pos b) j h = ⊎_elim
+copy_count-fewer : (n : ℕ) (bound : ℤ) (j : ℕ) → j ≤ n → fewer j bound ≡ fewer j (pos (copy_count n bound))
+copy_count-fewer n (pos b) j h = ⊎_elim
     (λ lt. lt-ltb j b lt ∙ sym (lt-ltb j (min b (suc n)) (omega arith)))
     (λ ge. le-ltb j b ge ∙ sym (le-ltb j (min b (suc n)) (omega arith)))
     (cases_lt j b)
-copies-fewer n (negsuc b) j h = sym (lt-ltb j (suc n) (omega arith))
+copy_count-fewer n (negsuc b) j h = sym (lt-ltb j (suc n) (omega arith))
 
 -- bounds that allow the same copies
 same_spread : (to : List ℕ) (a b : ℤ) (es : List (List ℕ)) (made : ℕ)
-    → ((j : ℕ) → j ≤ made + length es → fewer j a ≡ fewer j b) → spread to a made es ≡ spread to b made es
+    → ((j : ℕ) → j ≤ made + length es → fewer j a ≡ fewer j b) → spread_text to a made es ≡ spread_text to b made es
 same_spread to a b [] made same = ap (λ t. cond t to []) (same made (omega arith))
 same_spread to a b (e ∷ es) made same =
     let rest = same_spread to a b es (suc made) (λ j h. same j (omega arith)) in
-    ap (λ t. cond t to [] ++ (e ++ spread to a (suc made) es)) (same made (omega arith))
+    ap (λ t. cond t to [] ++ (e ++ spread_text to a (suc made) es)) (same made (omega arith))
     ∙ ap (λ r. cond (fewer made b) to [] ++ (e ++ r)) rest
 
 -- a bound allows as many copies as there are
-pub spread-copies : (to : List ℕ) (bound : ℤ) (es : List (List ℕ))
-    → spread to bound 0 es ≡ spread to (pos (copies (length es) bound)) 0 es
-spread-copies to bound es =
+pub spread_text-copy_count : (to : List ℕ) (bound : ℤ) (es : List (List ℕ))
+    → spread_text to bound 0 es ≡ spread_text to (pos (copy_count (length es) bound)) 0 es
+spread_text-copy_count to bound es =
     let n = length es in
-    same_spread to bound (pos (copies n bound)) es 0 (λ j h. copies-fewer n bound j (omega arith))
+    same_spread to bound (pos (copy_count n bound)) es 0 (λ j h. copy_count-fewer n bound j (omega arith))
 
-pub copies-few : (n : ℕ) (bound : ℤ) → copies n bound ≤ suc n
-copies-few n (pos b) = omega arith
-copies-few n (negsuc b) = omega arith
+pub copy_count-few : (n : ℕ) (bound : ℤ) → copy_count n bound ≤ suc n
+copy_count-few n (pos b) = omega arith
+copy_count-few n (negsuc b) = omega arith
 
 module _ (to : List ℕ) (count : ℕ) where
   -- no copy is left
-  pub spread_none : (es : List (List ℕ)) (made : ℕ) → count ≤ made → spread to (pos count) made es ≡ concat es
+  pub spread_none : (es : List (List ℕ)) (made : ℕ) → count ≤ made → spread_text to (pos count) made es ≡ concat es
   spread_none [] made past = ap (λ t. cond t to []) (le-ltb made count past)
   spread_none (e ∷ es) made past =
-      ap (λ t. cond t to [] ++ (e ++ spread to (pos count) (suc made) es)) (le-ltb made count past)
+      ap (λ t. cond t to [] ++ (e ++ spread_text to (pos count) (suc made) es)) (le-ltb made count past)
       ∙ ap (λ r. e ++ r) (spread_none es (suc made) (omega arith))
 
   -- one copy more, and the element behind it
-  pub spread-more : (e : List ℕ) (es : List (List ℕ)) (made : ℕ) → made < count
-      → spread to (pos count) made (e ∷ es) ≡ to ++ (e ++ spread to (pos count) (suc made) es)
-  spread-more e es made lt = ap (λ t. cond t to [] ++ (e ++ spread to (pos count) (suc made) es)) (lt-ltb made count lt)
+  pub spread_text-more : (e : List ℕ) (es : List (List ℕ)) (made : ℕ) → made < count
+      → spread_text to (pos count) made (e ∷ es) ≡ to ++ (e ++ spread_text to (pos count) (suc made) es)
+  spread_text-more e es made lt = ap (λ t. cond t to [] ++ (e ++ spread_text to (pos count) (suc made) es)) (lt-ltb made count lt)
 
   -- the copy at the end
-  pub spread-last : (made : ℕ) → made < count → spread to (pos count) made [] ≡ to
-  spread-last made lt = ap (λ t. cond t to []) (lt-ltb made count lt)
+  pub spread_text-last : (made : ℕ) → made < count → spread_text to (pos count) made [] ≡ to
+  spread_text-last made lt = ap (λ t. cond t to []) (lt-ltb made count lt)
 
 module _ (to : List ℕ) where
   -- no copy, the copy at the end, one copy more
@@ -68,20 +70,20 @@ module _ (to : List ℕ) where
   with_copies-more k e es = simp (append_assoc, leb-suc-suc)
 
   -- the copies that are still to be made stand before the next elements, and a last one at the end
-  spread-placed : (count k : ℕ) (es : List (List ℕ)) (made : ℕ) → count ≡ made + k
-      → spread to (pos count) made es ≡ with_copies to k es
-  spread-placed count zero es made all = spread_none to count es made (omega arith) ∙ sym (with_copies-none es)
-  spread-placed count (suc k) [] made all = spread-last to count made (omega arith) ∙ sym (with_copies-last k)
-  spread-placed count (suc k) (e ∷ es) made all =
-      let rest = spread-placed count k es (suc made) (omega arith) in
-      spread-more to count e es made (omega arith) ∙ (ap (λ r. to ++ (e ++ r)) rest ∙ sym (with_copies-more k e es))
+  spread_text-placed : (count k : ℕ) (es : List (List ℕ)) (made : ℕ) → count ≡ made + k
+      → spread_text to (pos count) made es ≡ with_copies to k es
+  spread_text-placed count zero es made all = spread_none to count es made (omega arith) ∙ sym (with_copies-none es)
+  spread_text-placed count (suc k) [] made all = spread_text-last to count made (omega arith) ∙ sym (with_copies-last k)
+  spread_text-placed count (suc k) (e ∷ es) made all =
+      let rest = spread_text-placed count k es (suc made) (omega arith) in
+      spread_text-more to count e es made (omega arith) ∙ (ap (λ r. to ++ (e ++ r)) rest ∙ sym (with_copies-more k e es))
 
   -- each copy stands in its place
-  pub spread-with_copies : (bound : ℤ) (es : List (List ℕ))
-      → spread to bound 0 es ≡ with_copies to (copies (length es) bound) es
-  spread-with_copies bound es =
-      let n = copies (length es) bound in
-      spread-copies to bound es ∙ spread-placed n n es 0 (omega arith)
+  pub spread_text-with_copies : (bound : ℤ) (es : List (List ℕ))
+      → spread_text to bound 0 es ≡ with_copies to (copy_count (length es) bound) es
+  spread_text-with_copies bound es =
+      let n = copy_count (length es) bound in
+      spread_text-copy_count to bound es ∙ spread_text-placed n n es 0 (omega arith)
 
   -- what the copies add
   pub length-with_copies : (k : ℕ) (es : List (List ℕ)) → k ≤ suc (length es)
@@ -96,8 +98,8 @@ module _ (to : List ℕ) where
       omega (arith, long, length-append e more, length-append e (concat es), suc-mul k (length to))
 
 -- an empty copy adds nothing
-pub spread-empty : (bound : ℤ) (es : List (List ℕ)) (made : ℕ) → spread [] bound made es ≡ concat es
-spread-empty bound [] made = nothing (fewer made bound)
-spread-empty bound (e ∷ es) made =
-    ap (λ t. t ++ (e ++ spread [] bound (suc made) es)) (nothing (fewer made bound))
-    ∙ ap (λ r. e ++ r) (spread-empty bound es (suc made))
+pub spread_text-empty : (bound : ℤ) (es : List (List ℕ)) (made : ℕ) → spread_text [] bound made es ≡ concat es
+spread_text-empty bound [] made = nothing (fewer made bound)
+spread_text-empty bound (e ∷ es) made =
+    ap (λ t. t ++ (e ++ spread_text [] bound (suc made) es)) (nothing (fewer made bound))
+    ∙ ap (λ r. e ++ r) (spread_text-empty bound es (suc made))

@@ -1,5 +1,6 @@
 -- What the written places keep.
-use Rattle.std.proofs.Common.{◌≡◌, ℕ, ◌+◌, ◌-◌, ◌<◌, IsTrue, List, [], ◌∷◌, length, take, drop, ℤ, Ok, Err, Result, sym, refl, ap, ◌∙◌, subst, arith}
+use Rattle.std.proofs.Common.{◌≡◌, ℕ, ◌+◌, ◌-◌, ◌<◌, IsTrue, List, [], ◌∷◌, length, take, drop, ℤ, Ok, Err, Result, sym}
+use Rattle.std.proofs.Common.{refl, ap, ◌∙◌, subst, arith}
 use Rattle.std.specs.List.{concat}
 use Rattle.anystr.specs.Elements.{Boundary, Occurs}
 use Rattle.anystr.specs.Places.{Lists, part}
@@ -12,11 +13,11 @@ use Rattle.cuts.specs.Splits.{SplitBy}
 use Rattle.cuts.proofs.Splits.{split-rule, rsplit-rule, split-restores, split-on}
 use Rattle.anystr.proofs.Boundaries.{end_on}
 use Rattle.bytesinner.specs.Written.{OfWritten, Cuttable}
-use Rattle.bytesinner.specs.splits.Separated.{separated, split_of, rsplit_of, SplitFront, SplitBack, Restore}
+use Rattle.bytesinner.specs.splits.Separated.{unless_empty, split_of, rsplit_of, SplitFront, SplitBack, Restore}
 use Rattle.bytesinner.proofs.Written.{written}
 
 -- what holds of the pieces holds of the places that are written
-split_written : (P : List Span → Type 0) (sep : List ℕ) (ps : List Span) → P ps → (list list' : List Place) (r : Result ℕ Refusal) → Lists (separated sep ps) list list' r → OfWritten P list' r
+split_written : (P : List Span → Type 0) (sep : List ℕ) (ps : List Span) → P ps → (list list' : List Place) (r : Result ℕ Refusal) → Lists (unless_empty sep ps) list list' r → OfWritten P list' r
 split_written P [] ps p list list' (Ok n) h = let z : ◌≡◌ {A = ℕ} 0 1 = let e = h.0 in cc in absurd (omega arith)
 split_written P [] ps p list list' (Err e) h = tt
 split_written P (b ∷ bs) ps p list list' r h = written P ps p list list' r h
@@ -53,7 +54,7 @@ module _ (Rule : List Span → Type 0) (es : List (List ℕ)) (sep : List ℕ) (
       let on = split-on (Boundary es) Rule (length (concat es)) ps (0, refl) (end_on es) (λ cut rule m k. on-boundaries es sep whole m (marked cut rule m k)) by p h in
       record { order = on.0; start = on.1; end = on.2 }
 
-  kept : (list list' : List Place) (r : Result ℕ Refusal) → Lists (separated sep ps) list list' r → Kept (SplitBy Rule (length (concat es))) es sep list' r
+  kept : (list list' : List Place) (r : Result ℕ Refusal) → Lists (unless_empty sep ps) list list' r → Kept (SplitBy Rule (length (concat es))) es sep list' r
   kept list list' r h = record {
     rule = split_written (SplitBy Rule (length (concat es))) sep ps by list list' r h;
     restores = split_written (Restore (concat es) sep) sep ps (split-restores Rule sep (concat es) ps (λ cut rule m k. reads (concat es) sep m (marked cut rule m k)) by) list list' r h;

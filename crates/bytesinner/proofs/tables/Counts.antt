@@ -2,10 +2,10 @@
 use Rattle.std.proofs.Common.{◌≡◌, ◌==◌, ℕ, Bool, cond, List, [], ◌∷◌, arith}
 use Rattle.std.proofs.lemmas.Bool.Decides.{nat_tests}
 use Rattle.std.proofs.lemmas.List.Sums.{sum_by-cons}
-use Rattle.bytesinner.specs.tables.Translations.{kept, times}
+use Rattle.bytesinner.specs.tables.Translations.{kept_bytes, times}
 
-pub count_kept : (gone : ℕ → Bool) (b : ℕ) (xs : List ℕ) → times b (kept gone xs) ≡ cond (gone b) 0 (times b xs)
+pub count_kept : (gone : ℕ → Bool) (b : ℕ) (xs : List ℕ) → times b (kept_bytes gone xs) ≡ cond (gone b) 0 (times b xs)
 count_kept gone b [] = grind arith
 count_kept gone b (x ∷ xs) =
     let more = sum_by-cons (λ y. cond (b == y) 1 0) x in
-    grind (arith, nat_tests, more xs, more (kept gone xs), count_kept gone b xs)
+    grind (arith, nat_tests, more xs, more (kept_bytes gone xs), count_kept gone b xs)

@@ -3,31 +3,31 @@ use Rattle.std.proofs.Common.{◌≡◌, ℕ, ◌≤◌, Bool, List, [], ◌∷�
 use Rattle.std.proofs.lemmas.List.{take_all, length-map, get_or-map, map-id}
 use Rattle.searchers.specs.bytesets.Sets.{among}
 use Rattle.bytesinner.specs.declared.tables.translate.ByteInnerTranslateOptions.{ByteInnerTranslateOptions}
-use Rattle.bytesinner.specs.tables.Translations.{image, kept, table_in, delete_in, kept_images, InPlace, Without}
+use Rattle.bytesinner.specs.tables.Translations.{image, kept_bytes, table_in, delete_in, kept_images, InPlace, Without}
 use Rattle.bytesinner.proofs.tables.Counts.{count_kept}
 
 -- the set is made from the whole delete list
-pub kept-is : (gone : ℕ → Bool) (delete ds text bytes : List ℕ) (at : ℕ) → length ds ≤ at
+pub kept_bytes-is : (gone : ℕ → Bool) (delete ds text bytes : List ℕ) (at : ℕ) → length ds ≤ at
     → ((b : ℕ) → gone b ≡ among (take at ds) b) → ds ≡ delete → bytes ≡ text
-    → kept gone bytes ≡ kept (among delete) text
-kept-is gone delete ds text bytes at end made whole is =
+    → kept_bytes gone bytes ≡ kept_bytes (among delete) text
+kept_bytes-is gone delete ds text bytes at end made whole is =
     let same : (b : ℕ) → gone b ≡ among delete b = λ b. made b ∙ ap (λ xs. among xs b) (take_all at ds end ∙ whole) in
-    λ i. kept (λ b. same b i) (is i)
+    λ i. kept_bytes (λ b. same b i) (is i)
 
-kept-all : (xs : List ℕ) → kept (among []) xs ≡ xs
-kept-all [] = refl
-kept-all (x ∷ xs) = ap (λ r. x ∷ r) (kept-all xs)
+kept_bytes-all : (xs : List ℕ) → kept_bytes (among []) xs ≡ xs
+kept_bytes-all [] = refl
+kept_bytes-all (x ∷ xs) = ap (λ r. x ∷ r) (kept_bytes-all xs)
 
 -- where no byte is deleted each stands in its place
 pub undeleted : (options : ByteInnerTranslateOptions) (text : List ℕ) → delete_in options ≡ []
     → InPlace options text (kept_images options text)
 undeleted options text e =
     let f = image (table_in options) in
-    rw (e, kept-all text) record { long = length-map text f; maps = λ i h. get_or-map f text i 0 0 h }
+    rw (e, kept_bytes-all text) record { long = length-map text f; maps = λ i h. get_or-map f text i 0 0 h }
 
 -- without a table the bytes that are kept stand as often as before
 pub unmapped : (options : ByteInnerTranslateOptions) (text : List ℕ) → table_in options ≡ None
     → Without options text (kept_images options text)
 unmapped options text e b =
     let gone = among (delete_in options) in
-    rw (e, map-id (kept gone text)) (count_kept gone b text)
+    rw (e, map-id (kept_bytes gone text)) (count_kept gone b text)

@@ -1,5 +1,7 @@
 -- The lists that a bound makes of the runs, as they are written.
-use Rattle.std.proofs.Common.{◌≡◌, ℕ, zero, suc, ◌+◌, ◌-◌, ◌<◌, ◌≤◌, min, ltb, List, [], ◌∷◌, ◌++◌, length, get_or, take, drop, set, ℤ, pos, negsuc, Ok, Err, Result, sym, refl, ap, ◌∙◌, subst, ⊎_elim, arith, length-drop, length-take, w64, SFits, to_z, of_z}
+use Rattle.std.proofs.Common.{◌≡◌, ℕ, zero, suc, ◌+◌, ◌-◌, ◌<◌, ◌≤◌, min, ltb, List, [], ◌∷◌, ◌++◌, length, get_or}
+use Rattle.std.proofs.Common.{take, drop, set, ℤ, pos, negsuc, Ok, Err, Result, sym, refl, ap, ◌∙◌, subst, ⊎_elim}
+use Rattle.std.proofs.Common.{arith, length-drop, length-take, w64, SFits, to_z, of_z}
 use Rattle.std.specs.Prelude.{if◌then◌else◌, nat_le}
 use Rattle.std.proofs.lemmas.List.{take_all, drop-set-lt, length-map, take-append-le, drop-append-le, take-append-drop}
 use Rattle.std.proofs.lemmas.Bool.{lt-ltb, le-ltb, cases_lt, cond-true, cond-false}
@@ -8,11 +10,11 @@ use Rattle.anystr.specs.Places.{stretch, stretches, Lists}
 use Rattle.anystr.specs.declared.place.Place.{Place}
 use Rattle.searchers.specs.Marks.{Span}
 use Rattle.cutters.specs.pieces.Sources.{Filled}
-use Rattle.bytesinner.specs.words.Words.{alone, to_end, from_start, first_words, last_words}
+use Rattle.bytesinner.specs.words.Words.{lone_count, to_end, from_start, first_words, last_words}
 
-pub alone-within : (total : ℕ) (bound : ℤ) → alone total bound ≤ total
-alone-within total (pos b) = omega arith
-alone-within total (negsuc b) = omega arith
+pub lone_count-within : (total : ℕ) (bound : ℤ) → lone_count total bound ≤ total
+lone_count-within total (pos b) = omega arith
+lone_count-within total (negsuc b) = omega arith
 
 length-to_end : (len : ℕ) (rs : List Span) → length (to_end len rs) ≡ length rs
 length-to_end len [] = refl
@@ -57,12 +59,12 @@ put ps n list list' l f =
 -- the number of the places that are wanted: of all the runs, those that stay and one more
 pub record Wanted (rs : List Span) (bound : ℤ) (total a m : ℕ) : Type 0 where
   pub total_is : total ≡ length rs
-  pub alone_is : a ≡ alone total bound
+  pub alone_is : a ≡ lone_count total bound
   pub is : m ≡ min total (a + 1)
 
 -- as the calls count them
-pub wanted : {rs : List Span} {bound : ℤ} {total a m : ℕ} → total ≡ length rs → SFits w64 bound → a ≡ alone total (to_z w64 (of_z w64 bound)) → m ≡ min total (a + 1) → Wanted rs bound total a m
-wanted {total = total} t fits a m = record { total_is = t; alone_is = a ∙ ap (alone total) (to_z-of_z w64 _ fits); is = m }
+pub wanted : {rs : List Span} {bound : ℤ} {total a m : ℕ} → total ≡ length rs → SFits w64 bound → a ≡ lone_count total (to_z w64 (of_z w64 bound)) → m ≡ min total (a + 1) → Wanted rs bound total a m
+wanted {total = total} t fits a m = record { total_is = t; alone_is = a ∙ ap (lone_count total) (to_z-of_z w64 _ fits); is = m }
 
 -- the room that was given in a list
 pub record Given (m n : ℕ) (list : List Place) : Type 0 where
@@ -91,24 +93,24 @@ abbrev none : Place
 none = record { start = 0; end = 0 }
 
 module _ {rs : List Span} {bound : ℤ} {total a m : ℕ} (w : Wanted rs bound total a m) where
-  stay : alone (length rs) bound ≡ a
-  stay = ap (λ (t : ℕ). alone t bound) (sym w.total_is) ∙ sym w.alone_is
+  stay : lone_count (length rs) bound ≡ a
+  stay = ap (λ (t : ℕ). lone_count t bound) (sym w.total_is) ∙ sym w.alone_is
 
   few : a ≤ total
-  few = omega (arith, w.alone_is, alone-within total bound)
+  few = omega (arith, w.alone_is, lone_count-within total bound)
 
   module _ (len : ℕ) where
     words_whole : total ≤ a → first_words rs len bound ≡ rs
-    words_whole le = cond-false (ltb (alone (length rs) bound) (length rs)) _ _ (le-ltb _ _ (omega (arith, stay, w.total_is)))
+    words_whole le = cond-false (ltb (lone_count (length rs) bound) (length rs)) _ _ (le-ltb _ _ (omega (arith, stay, w.total_is)))
 
     words_cut : a < total → first_words rs len bound ≡ to_end len (take (suc a) rs)
-    words_cut lt = cond-true (ltb (alone (length rs) bound) (length rs)) _ _ (lt-ltb _ _ (omega (arith, stay, w.total_is))) ∙ ap (λ (k : ℕ). to_end len (take (suc k) rs)) stay
+    words_cut lt = cond-true (ltb (lone_count (length rs) bound) (length rs)) _ _ (lt-ltb _ _ (omega (arith, stay, w.total_is))) ∙ ap (λ (k : ℕ). to_end len (take (suc k) rs)) stay
 
   rwords_whole : total ≤ a → last_words rs bound ≡ rs
-  rwords_whole le = cond-false (ltb (alone (length rs) bound) (length rs)) _ _ (le-ltb _ _ (omega (arith, stay, w.total_is)))
+  rwords_whole le = cond-false (ltb (lone_count (length rs) bound) (length rs)) _ _ (le-ltb _ _ (omega (arith, stay, w.total_is)))
 
   rwords_cut : a < total → last_words rs bound ≡ from_start (drop (length rs - suc a) rs)
-  rwords_cut lt = cond-true (ltb (alone (length rs) bound) (length rs)) _ _ (lt-ltb _ _ (omega (arith, stay, w.total_is))) ∙ ap (λ (k : ℕ). from_start (drop (length rs - suc k) rs)) stay
+  rwords_cut lt = cond-true (ltb (lone_count (length rs) bound) (length rs)) _ _ (lt-ltb _ _ (omega (arith, stay, w.total_is))) ∙ ap (λ (k : ℕ). from_start (drop (length rs - suc k) rs)) stay
 
   pub words_length : (len : ℕ) → length (first_words rs len bound) ≡ m
   words_length len = ⊎_elim

@@ -1,18 +1,19 @@
 -- The runs of a text are its longest stretches without whitespace.
-use Rattle.std.proofs.Common.{◌≡◌, ℕ, suc, ◌+◌, ◌-◌, ◌<◌, ◌≤◌, Bool, true, false, cond, ltb, ◌⊎◌, List, [], ◌∷◌, ◌++◌, length, get_or, drop, sym, refl, ap, ◌∙◌, subst, inl, inr, ⊎_elim, arith, length-drop}
+use Rattle.std.proofs.Common.{◌≡◌, ℕ, suc, ◌+◌, ◌-◌, ◌<◌, ◌≤◌, Bool, true, false, cond, ltb, ◌⊎◌, List, [], ◌∷◌, ◌++◌}
+use Rattle.std.proofs.Common.{length, get_or, drop, sym, refl, ap, ◌∙◌, subst, inl, inr, ⊎_elim, arith, length-drop}
 use Rattle.std.proofs.lemmas.List.{get_or-drop, drop-drop}
 use Rattle.std.proofs.lemmas.Bool.{ltb-true, lt-ltb, both_ways, cases_lt, cond_both}
 use Rattle.searchers.specs.Marks.{Span}
 use Rattle.cuts.specs.Runs.{In}
-use Rattle.bytesinner.specs.words.Words.{space, run, runs_from, runs, Run, InOrder, AllRuns}
+use Rattle.bytesinner.specs.words.Words.{is_space, run, runs_from, runs, Run, InOrder, AllRuns}
 
 -- a stretch under way: these bytes stand from `place` on, and no whitespace from `from` to it
 record Open (bytes : List ℕ) (from place : ℕ) (bs : List ℕ) : Type 0 where
   rest : drop place bytes ≡ bs
   order : from ≤ place
   within : place ≤ length bytes
-  bare : (k : ℕ) → from ≤ k → k < place → space (get_or bytes k 0) ≡ false
-  before : 0 < from → space (get_or bytes (from - 1) 0) ≡ true
+  bare : (k : ℕ) → from ≤ k → k < place → is_space (get_or bytes k 0) ≡ false
+  before : 0 < from → is_space (get_or bytes (from - 1) 0) ≡ true
 
 -- the byte at the place, and the bytes after it
 record Head (bytes : List ℕ) (place b : ℕ) (bs : List ℕ) : Type 0 where
@@ -31,7 +32,7 @@ head {bytes} {from} {place} o =
       next = ap (λ (k : ℕ). drop k bytes) s ∙ sym (drop-drop 1 place bytes) ∙ ap (drop 1) e;
     }
 
-passed : {bytes : List ℕ} {from place b : ℕ} {bs : List ℕ} → Open bytes from place (b ∷ bs) → space b ≡ true → Open bytes (suc place) (suc place) bs
+passed : {bytes : List ℕ} {from place b : ℕ} {bs : List ℕ} → Open bytes from place (b ∷ bs) → is_space b ≡ true → Open bytes (suc place) (suc place) bs
 passed {bytes} {from} {place} {b} o is =
     let h = head o in
     let z : suc place - 1 ≡ place = omega arith in
@@ -40,10 +41,10 @@ passed {bytes} {from} {place} {b} o is =
       order = omega arith;
       within = h.lt;
       bare = λ k ge lt. absurd (omega arith);
-      before = λ _. ap (λ (k : ℕ). space (get_or bytes k 0)) z ∙ ap space h.here ∙ is;
+      before = λ _. ap (λ (k : ℕ). is_space (get_or bytes k 0)) z ∙ ap is_space h.here ∙ is;
     }
 
-went_on : {bytes : List ℕ} {from place b : ℕ} {bs : List ℕ} → Open bytes from place (b ∷ bs) → space b ≡ false → Open bytes from (suc place) bs
+went_on : {bytes : List ℕ} {from place b : ℕ} {bs : List ℕ} → Open bytes from place (b ∷ bs) → is_space b ≡ false → Open bytes from (suc place) bs
 went_on {bytes} {from} {place} {b} o is =
     let h = head o in
     let ord = o.order in
@@ -51,7 +52,7 @@ went_on {bytes} {from} {place} {b} o is =
       rest = h.next;
       order = omega arith;
       within = h.lt;
-      bare = λ k ge lt. ⊎_elim (o.bare k ge) (λ past. let z : k ≡ place = omega arith in ap (λ (j : ℕ). space (get_or bytes j 0)) z ∙ ap space h.here ∙ is) (cases_lt k place);
+      bare = λ k ge lt. ⊎_elim (o.bare k ge) (λ past. let z : k ≡ place = omega arith in ap (λ (j : ℕ). is_space (get_or bytes j 0)) z ∙ ap is_space h.here ∙ is) (cases_lt k place);
       before = o.before;
     }
 
@@ -75,12 +76,12 @@ order-run from place rs le more = cond_both (ltb from place) ((from, place) ∷ 
 order_from : (from place : ℕ) (bs : List ℕ) → from ≤ place → InOrder from (runs_from from place bs)
 order_from from place [] le = cond_both (ltb from place) ((from, place) ∷ []) [] (InOrder from) (λ _. (omega arith, tt)) (λ _. tt)
 order_from from place (b ∷ bs) le =
-    cond_both (space b) _ _ (InOrder from)
+    cond_both (is_space b) _ _ (InOrder from)
     (λ _. order-run from place _ le (order_from (suc place) (suc place) bs (omega arith)))
     (λ _. order_from from (suc place) bs (omega arith))
 
 -- what ends at the text's end or at whitespace is a run
-closed : {bytes : List ℕ} {from place : ℕ} {bs : List ℕ} (m : Span) → Open bytes from place bs → (place < length bytes → space (get_or bytes place 0) ≡ true) → from < place → m ≡ (from, place) → Run bytes m.0 m.1
+closed : {bytes : List ℕ} {from place : ℕ} {bs : List ℕ} (m : Span) → Open bytes from place bs → (place < length bytes → is_space (get_or bytes place 0) ≡ true) → from < place → m ≡ (from, place) → Run bytes m.0 m.1
 closed {bytes} {from} {place} m o ends lt is =
     subst (λ (r : Span). Run bytes r.0 r.1) (sym is) (record { nonempty = lt; within = o.within; bare = o.bare; before = o.before; after = ends })
 
@@ -90,9 +91,9 @@ each_from bytes from place [] o m =
     (λ is. ⊎_elim (closed m o (λ lt. absurd (omega (arith, length-drop place bytes, ap length o.rest))) (ltb-true from place is)) (λ none. absurd none))
     (λ _ none. absurd none)
 each_from bytes from place (b ∷ bs) o m =
-    cond_both (space b) _ _ (λ (ms : List Span). In m ms → Run bytes m.0 m.1)
+    cond_both (is_space b) _ _ (λ (ms : List Span). In m ms → Run bytes m.0 m.1)
     (λ is there. ⊎_elim
-    (λ h. closed m o (λ _. ap space (head o).here ∙ is) h.0 h.1)
+    (λ h. closed m o (λ _. ap is_space (head o).here ∙ is) h.0 h.1)
     (each_from bytes (suc place) (suc place) bs (passed o is) m)
     (in_run from place _ m there))
     (λ is. each_from bytes from (suc place) bs (went_on o is) m)
@@ -120,12 +121,12 @@ every-from bytes from place [] o a e r ge =
     let lt : from < place = omega (arith, r.nonempty) in
     subst (λ (t : Bool). In (a, e) (cond t ((from, place) ∷ []) [])) (sym (lt-ltb from place lt)) (inl (λ i. (sym start i, sym end i)))
 every-from bytes from place (b ∷ bs) o a e r ge =
-    cond_both (space b) _ _ (In (a, e))
+    cond_both (is_space b) _ _ (In (a, e))
     (λ is. ⊎_elim
     (λ lt.
     let l = not_before a e o r ge in
     let start : from ≡ a = sym (begins a e o r ge (omega arith)) in
-    let no-further : e ≤ place = ⊎_elim (λ in-it. absurd (both_ways _ (r.bare place (omega arith) in-it) (ap space (head o).here ∙ is))) (λ h. h) (cases_lt place e) in
+    let no-further : e ≤ place = ⊎_elim (λ in-it. absurd (both_ways _ (r.bare place (omega arith) in-it) (ap is_space (head o).here ∙ is))) (λ h. h) (cases_lt place e) in
     let end : place ≡ e = omega arith in
     subst (λ (s : Span). In s (run from place ++ runs_from (suc place) (suc place) bs)) (λ i. (start i, end i)) (run_in from place _ (omega (arith, r.nonempty))))
     (λ later. past_run from place _ (a, e) (every-from bytes (suc place) (suc place) bs (passed o is) a e r later))

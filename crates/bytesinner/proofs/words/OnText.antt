@@ -1,5 +1,6 @@
 -- The words of a text lie on boundaries where bytes below 128 stand apart.
-use Rattle.std.proofs.Common.{◌≡◌, ℕ, zero, suc, ◌-◌, ◌<◌, ◌≤◌, true, ltb, List, [], ◌∷◌, length, take, drop, ℤ, Ok, Result, sym, refl, ap, ◌∙◌, subst, ⊎_elim, arith, length-append, take-append-drop}
+use Rattle.std.proofs.Common.{◌≡◌, ℕ, zero, suc, ◌-◌, ◌<◌, ◌≤◌, true, ltb, List, [], ◌∷◌, length, take, drop, ℤ, Ok}
+use Rattle.std.proofs.Common.{Result, sym, refl, ap, ◌∙◌, subst, ⊎_elim, arith, length-append, take-append-drop}
 use Rattle.std.specs.List.{concat}
 use Rattle.std.proofs.lemmas.Bool.{cases_lt, cond_both}
 use Rattle.std.proofs.lemmas.List.Folds.{concat-append}
@@ -11,13 +12,14 @@ use Rattle.searchers.specs.Ascii.{AsciiApart}
 use Rattle.searchers.specs.Marks.{Span}
 use Rattle.anystr.proofs.Boundaries.{end_on}
 use Rattle.bytesinner.specs.Written.{OfWritten, Cuttable}
-use Rattle.bytesinner.specs.words.Words.{space, runs, alone, to_end, from_start, words_of, rwords_of, Run, AllRuns}
+use Rattle.bytesinner.specs.words.Words.{is_space, runs, lone_count, to_end, from_start, words_of, rwords_of, Run}
+use Rattle.bytesinner.specs.words.Words.{AllRuns}
 use Rattle.bytesinner.proofs.Written.{written, cuttable-nil, cuttable-cons, cuttable-head, cuttable-tail}
 use Rattle.bytesinner.proofs.words.Longest.{all_runs}
 
 -- whitespace is below 128
-space-low : (b : ℕ) → space b ≡ true → b < 128
-space-low b is = grind arith
+is_space-low : (b : ℕ) → is_space b ≡ true → b < 128
+is_space-low b is = grind arith
 
 module _ (es : List (List ℕ)) where
   -- no boundary lies past the end
@@ -65,11 +67,11 @@ module _ (es : List (List ℕ)) where
         start = ⊎_elim
             (λ some.
             let last : suc (a - 1) ≡ a = omega arith in
-            subst (Boundary es) last (apart (a - 1) (omega arith) (space-low _ (r.before some))).1)
+            subst (Boundary es) last (apart (a - 1) (omega arith) (is_space-low _ (r.before some))).1)
             (λ none. (0, let first : 0 ≡ a = omega arith in first))
             (cases_lt 0 a);
         end = ⊎_elim
-            (λ lt. (apart e lt (space-low _ (r.after lt))).0)
+            (λ lt. (apart e lt (is_space-low _ (r.after lt))).0)
             (λ past. let all : length (concat es) ≡ e = omega arith in subst (Boundary es) all (end_on es))
             (cases_lt e (length (concat es)));
       }
@@ -81,7 +83,7 @@ module _ (es : List (List ℕ)) where
     pub words-cut : Cuttable es (words_of (concat es) bound)
     words-cut =
         let rs = runs (concat es) in
-        let n = alone (length rs) bound in
+        let n = lone_count (length rs) bound in
         cond_both (ltb n (length rs)) _ _ (Cuttable es)
         (λ _. to_end-cut _ (taken (suc n) rs (runs-cut apart)))
         (λ _. runs-cut apart)
@@ -89,7 +91,7 @@ module _ (es : List (List ℕ)) where
     pub rwords-cut : Cuttable es (rwords_of (concat es) bound)
     rwords-cut =
         let rs = runs (concat es) in
-        let n = alone (length rs) bound in
+        let n = lone_count (length rs) bound in
         cond_both (ltb n (length rs)) _ _ (Cuttable es)
         (λ _. from_start-cut _ (dropped (length rs - suc n) rs (runs-cut apart)))
         (λ _. runs-cut apart)

@@ -1,12 +1,15 @@
 -- The runs that are left, past the whitespace at the front and past the run that follows it.
-use Rattle.std.proofs.Common.{◌≡◌, ℕ, suc, ◌+◌, ◌<◌, Bool, true, false, not, ltb, List, [], ◌∷◌, ◌++◌, length, drop, sym, refl, ap, ◌∙◌, subst, arith}
+use Rattle.std.proofs.Common.{◌≡◌, ℕ, suc, ◌+◌, ◌<◌, Bool, true, false, not, ltb, List, [], ◌∷◌, ◌++◌, length, drop}
+use Rattle.std.proofs.Common.{sym, refl, ap, ◌∙◌, subst, arith}
 use Rattle.std.specs.Bool.{beq}
 use Rattle.std.specs.List.{slice_range}
 use Rattle.std.proofs.lemmas.List.{drop-drop, append-nil, take_rest}
-use Rattle.std.proofs.lemmas.Bool.{lt-ltb, cond_both, cond-true, cond-false}
+use Rattle.std.proofs.lemmas.Bool.{lt-ltb, le-ltb, cond_both, cond-true, cond-false}
 use Rattle.searchers.specs.Marks.{Span}
-use Rattle.bytesinner.specs.words.Words.{space, stretch_len, run, runs_from, runs_left}
-use Rattle.bytesinner.specs.words.Yields.{no_run}
+use Rattle.bytesinner.specs.words.Words.{is_space, stretch_len, run, runs_from}
+
+no_run : (p : ℕ) → run p p ≡ []
+no_run p = cond-false (ltb p p) _ _ (le-ltb p p (omega arith))
 
 one_run : (a e : ℕ) → a < e → run a e ≡ (a, e) ∷ []
 one_run a e lt = cond-true (ltb a e) _ _ (lt-ltb a e lt)
@@ -24,10 +27,10 @@ other false true h = refl
 other false false h = cc
 
 -- what holds of a stretch at the front, by whether the first byte is in it
-front : (b : ℕ) (bs : List ℕ) (spaces : Bool) (P : ℕ → Type 0) → (space b ≡ spaces → P (suc (stretch_len bs spaces))) → (space b ≡ not spaces → P 0) → P (stretch_len (b ∷ bs) spaces)
+front : (b : ℕ) (bs : List ℕ) (spaces : Bool) (P : ℕ → Type 0) → (is_space b ≡ spaces → P (suc (stretch_len bs spaces))) → (is_space b ≡ not spaces → P 0) → P (stretch_len (b ∷ bs) spaces)
 front b bs spaces P in-it past =
     let s : suc (stretch_len bs spaces) ≡ 1 + stretch_len bs spaces = omega arith in
-    cond_both (beq spaces (space b)) (1 + stretch_len bs spaces) 0 P (λ h. subst P s (in-it (same spaces (space b) h))) (λ h. past (other spaces (space b) h))
+    cond_both (beq spaces (is_space b)) (1 + stretch_len bs spaces) 0 P (λ h. subst P s (in-it (same spaces (is_space b) h))) (λ h. past (other spaces (is_space b) h))
 
 -- no run ends in the whitespace at the front
 over_space : (i : ℕ) (bs : List ℕ) → runs_from i i bs ≡ runs_from (i + stretch_len bs true) (i + stretch_len bs true) (drop (stretch_len bs true) bs)
@@ -36,7 +39,7 @@ over_space i (b ∷ bs) = front b bs true (λ n. runs_from i i (b ∷ bs) ≡ ru
     (λ is.
     let n = stretch_len bs true in
     let e : suc i + n ≡ i + suc n = omega arith in
-    cond-true (space b) _ _ is ∙ (ap (λ (rs : List Span). rs ++ runs_from (suc i) (suc i) bs) (no_run i) ∙ (over_space (suc i) bs ∙ ap (λ (k : ℕ). runs_from k k (drop n bs)) e)))
+    cond-true (is_space b) _ _ is ∙ (ap (λ (rs : List Span). rs ++ runs_from (suc i) (suc i) bs) (no_run i) ∙ (over_space (suc i) bs ∙ ap (λ (k : ℕ). runs_from k k (drop n bs)) e)))
     (λ is. let z : i ≡ i + 0 = omega arith in ap (λ (k : ℕ). runs_from k k (b ∷ bs)) z)
 
 -- the stretch under way goes on to the next whitespace
@@ -48,11 +51,11 @@ through_run from i (b ∷ bs) = front b bs false (λ n. runs_from from i (b ∷ 
     (λ is.
     let n = stretch_len bs false in
     let e : suc i + n ≡ i + suc n = omega arith in
-    cond-false (space b) _ _ is ∙ (through_run from (suc i) bs ∙ ap (λ (k : ℕ). run from k ++ runs_from k k (drop n bs)) e))
+    cond-false (is_space b) _ _ is ∙ (through_run from (suc i) bs ∙ ap (λ (k : ℕ). run from k ++ runs_from k k (drop n bs)) e))
     (λ is.
     let z : i ≡ i + 0 = omega arith in
-    let here : runs_from i i (b ∷ bs) ≡ runs_from (suc i) (suc i) bs = cond-true (space b) _ _ is ∙ ap (λ (rs : List Span). rs ++ runs_from (suc i) (suc i) bs) (no_run i) in
-    cond-true (space b) _ _ is ∙ ((λ k. run from i ++ sym here k) ∙ ap (λ (k : ℕ). run from k ++ runs_from k k (b ∷ bs)) z))
+    let here : runs_from i i (b ∷ bs) ≡ runs_from (suc i) (suc i) bs = cond-true (is_space b) _ _ is ∙ ap (λ (rs : List Span). rs ++ runs_from (suc i) (suc i) bs) (no_run i) in
+    cond-true (is_space b) _ _ is ∙ ((λ k. run from i ++ sym here k) ∙ ap (λ (k : ℕ). run from k ++ runs_from k k (b ∷ bs)) z))
 
 -- past the whitespace at the front stands something that is none, or nothing
 ends : (bs : List ℕ) → stretch_len (drop (stretch_len bs true) bs) false ≡ 0 → drop (stretch_len bs true) bs ≡ []
@@ -77,18 +80,17 @@ scanned {place = place} {passed = passed} all rest same is over through =
     }
 
 module _ (bytes : List ℕ) (place passed len : ℕ) (s : Scanned bytes place passed len) where
-  passed_over : runs_left bytes place ≡ runs_from (place + passed) (place + passed) (drop passed (drop place bytes))
+  passed_over : runs_from place place (drop place bytes) ≡ runs_from (place + passed) (place + passed) (drop passed (drop place bytes))
   passed_over = over_space place (drop place bytes) ∙ ap (λ (n : ℕ). runs_from (place + n) (place + n) (drop n (drop place bytes))) (sym s.over)
 
-  pub none_left : len ≡ 0 → runs_left bytes place ≡ []
+  pub none_left : len ≡ 0 → runs_from place place (drop place bytes) ≡ []
   none_left none =
       let at_end : drop passed (drop place bytes) ≡ [] =
       ap (λ (n : ℕ). drop n (drop place bytes)) s.over
       ∙ ends (drop place bytes) (ap (λ (n : ℕ). stretch_len (drop n (drop place bytes)) false) (sym s.over) ∙ (sym s.through ∙ none)) in
       passed_over ∙ (ap (runs_from (place + passed) (place + passed)) at_end ∙ no_run (place + passed))
 
-  pub run_after : 0 < len
-      → runs_left bytes place ≡ (place + passed, place + passed + len) ∷ runs_left bytes (place + passed + len)
+  pub run_after : 0 < len → runs_from place place (drop place bytes) ≡ (place + passed, place + passed + len) ∷ runs_from (place + passed + len) (place + passed + len) (drop (place + passed + len) bytes)
   run_after some =
       let start : ℕ = place + passed in
       let end : ℕ = start + len in

@@ -1,5 +1,6 @@
 -- What a search is asked: the needle and the offsets that its options mean. Assumes nothing.
-use Rattle.std.specs.Prelude.{◌≡◌, ℕ, if◌then◌else◌, List, [], ◌∷◌, length, ℤ, pos, negsuc, Ok, Err, Result, nat_le, nat_lt}
+use Rattle.std.specs.Prelude.{◌≡◌, ℕ, if◌then◌else◌, List, [], ◌∷◌, length, ℤ, pos, negsuc, Ok, Err, Result, nat_le}
+use Rattle.std.specs.Prelude.{nat_lt}
 use Rattle.std.specs.Borrow.{Bor}
 use Rattle.std.specs.declared.ops.Range.{Range}
 use Rattle.anystr.specs.Bytes.{byte_list}
@@ -47,6 +48,7 @@ answer_of search_of bytes o = answer_in (search_of bytes) o (length bytes)
 abbrev pub Target : Type 0
 Target = List ℕ × ℕ × ℕ
 
+-- the same by its parts
 abbrev pub target : List ℕ → ℕ → ℕ → Target
 target n a b = (n, a, b)
 

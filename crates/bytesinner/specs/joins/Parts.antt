@@ -12,5 +12,5 @@ module _ {S C : Type 0} {s : AnyStr.Ghosts S C} where
   bad_part p = first_bad (s.elements p.text) 0 (stretches p.places.now)
 
   -- their bytes, joined
-  abbrev pub joined : Parts S C s → List ℕ
-  joined p = join_parts (bytes_of s p.sep) (bytes_of s p.text) (stretches p.places.now)
+  abbrev pub joined_parts : Parts S C s → List ℕ
+  joined_parts p = join_parts (bytes_of s p.sep) (bytes_of s p.text) (stretches p.places.now)

@@ -21,8 +21,8 @@ module _ {S F C : Type 0} {s : AnyStr.Ghosts S C} {f : Searcher.Ghosts F S C} wh
   state l = cutter.state l.cutter
 
   -- the lines that are left, in the order in which they come
-  abbrev pub left : Lines S F C s f → List Span
-  left l = lines_left (opening l) l.keepends (state l)
+  abbrev pub left_lines : Lines S F C s f → List Span
+  left_lines l = lines_left (opening l) l.keepends (state l)
 
   -- they are those of this text between marks of this searcher, with their ends or without
   pub record IsOn (on_text : S) (by_searcher : F) (with_ends : Bool) (l : Lines S F C s f) : Type 0 where

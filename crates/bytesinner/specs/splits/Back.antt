@@ -21,8 +21,8 @@ module _ {S F C : Type 0} {s : AnyStr.Ghosts S C} {f : Searcher.Ghosts F S C} wh
   state c = at (size (opening c) - c.progress.place) c.progress.made c.progress.spent
 
   -- the pieces that it has left, in the order in which they come
-  abbrev pub left : BackCutter S F C s f → List Span
-  left c = left_back (opening c) (state c)
+  abbrev pub left_pieces : BackCutter S F C s f → List Span
+  left_pieces c = left_back (opening c) (state c)
 
   -- it is on this text, with this searcher and this bound
   pub record IsOn (on_text : S) (by_searcher : F) (to_bound : ℤ) (c : BackCutter S F C s f) : Type 0 where

@@ -7,17 +7,17 @@ use Rattle.cuts.specs.Runs.{CutRule}
 use Rattle.cuts.specs.Splits.{pieces_of, rpieces_of, CutRuleBack, SplitBy}
 
 -- an empty separator is refused
-abbrev pub separated : List ℕ → List Span → Result (List Span) (ℕ × ℕ)
-separated [] places = Err (1, 0)
-separated (_ ∷ _) places = Ok places
+abbrev pub unless_empty : List ℕ → List Span → Result (List Span) (ℕ × ℕ)
+unless_empty [] places = Err (1, 0)
+unless_empty (_ ∷ _) places = Ok places
 
 -- split: the places between the occurrences of the separator that are cut from the front
 abbrev pub split_of : List ℕ → List ℕ → ℤ → Result (List Span) (ℕ × ℕ)
-split_of bytes sep maxsplit = separated sep (pieces_of (occurrence sep bytes) (length bytes) maxsplit)
+split_of bytes sep maxsplit = unless_empty sep (pieces_of (occurrence sep bytes) (length bytes) maxsplit)
 
 -- rsplit: the places between those that are cut from the end
 abbrev pub rsplit_of : List ℕ → List ℕ → ℤ → Result (List Span) (ℕ × ℕ)
-rsplit_of bytes sep maxsplit = separated sep (rpieces_of (occurrence sep bytes) (length bytes) maxsplit)
+rsplit_of bytes sep maxsplit = unless_empty sep (rpieces_of (occurrence sep bytes) (length bytes) maxsplit)
 
 -- the places lie between the occurrences of the separator that the rule cuts from the front
 abbrev pub SplitFront : (bytes sep : List ℕ) → ℤ → List Span → Type 0

@@ -1,5 +1,6 @@
 -- The table that maketrans makes from two lists of bytes. Assumes nothing.
-use Rattle.std.specs.Prelude.{◌≡◌, ℕ, ◌<◌, cond, List, [], ◌∷◌, map, length, Ok, Err, Result, ◌==◌, ◌≢◌, slice_index, slice_index_or}
+use Rattle.std.specs.Prelude.{◌≡◌, ℕ, ◌<◌, if◌then◌else◌, List, [], ◌∷◌, map, length, Ok, Err, Result, ◌==◌, ◌≢◌}
+use Rattle.std.specs.Prelude.{slice_index, slice_index_or}
 use Rattle.std.specs.List.{range_with_len}
 use Rattle.bytesinner.specs.tables.Tables.{byte_values}
 
@@ -7,7 +8,7 @@ use Rattle.bytesinner.specs.tables.Tables.{byte_values}
 abbrev pub partner : (from to : List ℕ) → ℕ → ℕ
 partner [] to b = b
 partner (x ∷ from) [] b = b
-partner (x ∷ from) (y ∷ to) b = cond (x == b) y (partner from to b)
+partner (x ∷ from) (y ∷ to) b = if x == b then y else partner from to b
 
 -- the table of every byte's partner, in the order of the bytes
 abbrev pub table_from : (from to : List ℕ) → List ℕ
@@ -15,7 +16,7 @@ table_from from to = map (partner from to) (range_with_len 0 byte_values)
 
 -- the table, or the refusal of lists of unequal lengths
 abbrev pub maketrans_of : (from to : List ℕ) → Result (List ℕ) (ℕ × ℕ)
-maketrans_of from to = cond (length from == length to) (Ok (table_from from to)) (Err (3, 0))
+maketrans_of from to = if length from == length to then Ok (table_from from to) else Err (3, 0)
 
 -- a byte stands at a position of a list, and at no lesser one
 pub record FirstAt (xs : List ℕ) (b i : ℕ) : Type 0 where

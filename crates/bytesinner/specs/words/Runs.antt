@@ -15,8 +15,8 @@ module _ {S C : Type 0} (s : AnyStr.Ghosts S C) where
   bytes rs = concat (s.elements rs.text)
 
   -- the runs that are left, in the order in which they come
-  abbrev pub left : Runs S C → List Span
-  left rs = runs_left (bytes rs) rs.place
+  abbrev pub left_runs : Runs S C → List Span
+  left_runs rs = runs_left (bytes rs) rs.place
 
   -- they are those of this text from this place on
   pub record IsOn (on_text : S) (from : ℕ) (rs : Runs S C) : Type 0 where

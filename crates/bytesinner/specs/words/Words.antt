@@ -1,5 +1,6 @@
 -- Words: the runs of a text between whitespace, and the lists that a bound makes of them. Assumes nothing.
-use Rattle.std.specs.Prelude.{◌≡◌, ℕ, suc, ◌-◌, ◌<◌, ◌≤◌, min, Bool, true, false, if◌then◌else◌, List, [], ◌∷◌, ◌++◌, length, take, drop, ℤ, pos, negsuc, Some, None, Option, nat_lt, slice_index}
+use Rattle.std.specs.Prelude.{◌≡◌, ℕ, suc, ◌-◌, ◌<◌, ◌≤◌, min, Bool, true, false, if◌then◌else◌, List, [], ◌∷◌, ◌++◌}
+use Rattle.std.specs.Prelude.{length, take, drop, ℤ, pos, negsuc, Some, None, Option, nat_lt, slice_index}
 use Rattle.std.specs.List.{prefix_len}
 use Rattle.std.specs.Bool.{beq}
 use Rattle.searchers.specs.Marks.{Span}
@@ -11,12 +12,12 @@ abbrev pub whitespace : List ℕ
 whitespace = 32 ∷ 9 ∷ 10 ∷ 12 ∷ 13 ∷ 11 ∷ []
 
 -- whether a byte is whitespace
-abbrev pub space : ℕ → Bool
-space b = among whitespace b
+abbrev pub is_space : ℕ → Bool
+is_space b = among whitespace b
 
 -- how many bytes at the front are whitespace, or, where `spaces` is false, are none
 abbrev pub stretch_len : List ℕ → Bool → ℕ
-stretch_len bytes spaces = prefix_len (λ b. beq spaces (space b)) bytes
+stretch_len bytes spaces = prefix_len (λ b. beq spaces (is_space b)) bytes
 
 -- a stretch alone, or nothing where it is empty
 abbrev pub run : ℕ → ℕ → List Span
@@ -27,7 +28,7 @@ run a e = if nat_lt a e then (a, e) ∷ [] else []
 abbrev pub runs_from : ℕ → ℕ → List ℕ → List Span
 runs_from from place [] = run from place
 runs_from from place (b ∷ bs) =
-    if space b then run from place ++ runs_from (suc place) (suc place) bs else runs_from from (suc place) bs
+    if is_space b then run from place ++ runs_from (suc place) (suc place) bs else runs_from from (suc place) bs
 
 -- the runs of a text
 abbrev pub runs : List ℕ → List Span
@@ -48,9 +49,9 @@ next_run bytes place = first_run place (runs_left bytes place)
 
 -- how many of the runs stay by themselves: as many as the bound, and all where they are not more; a negative bound
 -- is none
-abbrev pub alone : ℕ → ℤ → ℕ
-alone total (pos bound) = min total bound
-alone total (negsuc _) = total
+abbrev pub lone_count : ℕ → ℤ → ℕ
+lone_count total (pos bound) = min total bound
+lone_count total (negsuc _) = total
 
 -- the last stretch goes on to `len`
 abbrev pub to_end : ℕ → List Span → List Span
@@ -66,13 +67,13 @@ from_start (r ∷ rs) = (0, r.1) ∷ rs
 -- the runs of `len` bytes; where more than the bound, the first of them and one more, which goes on to their end
 abbrev pub first_words : List Span → ℕ → ℤ → List Span
 first_words rs len bound =
-    let n = alone (length rs) bound in
+    let n = lone_count (length rs) bound in
     if nat_lt n (length rs) then to_end len (take (suc n) rs) else rs
 
 -- the runs; where more than the bound, the last of them and one more, which begins at the start of the text
 abbrev pub last_words : List Span → ℤ → List Span
 last_words rs bound =
-    let n = alone (length rs) bound in
+    let n = lone_count (length rs) bound in
     if nat_lt n (length rs) then from_start (drop (length rs - suc n) rs) else rs
 
 -- the words of a text from its front, as a bound lets them be split
@@ -87,9 +88,9 @@ rwords_of bytes bound = last_words (runs bytes) bound
 pub record Run (bytes : List ℕ) (a e : ℕ) : Type 0 where
   pub nonempty : a < e
   pub within : e ≤ length bytes
-  pub bare : (k : ℕ) → a ≤ k → k < e → space (slice_index bytes k) ≡ false
-  pub before : 0 < a → space (slice_index bytes (a - 1)) ≡ true
-  pub after : e < length bytes → space (slice_index bytes e) ≡ true
+  pub bare : (k : ℕ) → a ≤ k → k < e → is_space (slice_index bytes k) ≡ false
+  pub before : 0 < a → is_space (slice_index bytes (a - 1)) ≡ true
+  pub after : e < length bytes → is_space (slice_index bytes e) ≡ true
 
 -- stretches that come in order from an offset on, each of which ends before the next begins
 abbrev pub InOrder : ℕ → List Span → Type 0

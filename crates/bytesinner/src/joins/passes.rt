@@ -3,7 +3,7 @@ ghost use Rattle.std.specs.Prelude.{◌≡◌, ◌≤◌, length, None};
 ghost use Rattle.anystr.specs.Refusals.{coded};
 ghost use Rattle.trays.specs.Trays.{gained};
 ghost use Rattle.bytesinner.specs.joins.Joins.{unless_bad};
-ghost use Rattle.bytesinner.specs.joins.Parts.{bad_part, joined};
+ghost use Rattle.bytesinner.specs.joins.Parts.{bad_part, joined_parts};
 
 use super::Parts;
 use anystr::anystr::AnyStr;
@@ -14,7 +14,7 @@ impl<'a, S: AnyStr> Parts<'a, S> {
     // The bytes that they take joined; refused, with its index, at the first place that is no part
     // of the text.
     pub(super) fn measure(&self) -> Result<u64, Refusal>
-        ensures { coded result ≡ unless_bad (bad_part self.now) (length (joined self.now)) }
+        ensures { coded result ≡ unless_bad (bad_part self.now) (length (joined_parts self.now)) }
     {
         let gaps = self.places.len().saturating_sub(1);
         let mut sum = gaps * self.sep.bytes_len();
@@ -32,8 +32,9 @@ impl<'a, S: AnyStr> Parts<'a, S> {
     // Appends them joined, where all fit, so that no push is refused.
     pub(super) fn pour<T: AnyStrContainer>(&self, tray: &mut T)
         requires good { bad_part self.now ≡ None }
-        requires fits { length (joined self.now) ≤ length (T.contents tray.old).spare }
-        ensures gained { T.contents tray.new ≡ gained (T.contents tray.old) (joined self.now) }
+        requires fits { length (joined_parts self.now) ≤ length (T.contents tray.old).spare }
+        ensures gained { T.contents tray.new
+            ≡ gained (T.contents tray.old) (joined_parts self.now) }
         ensures same_loan { T.loan tray.new ≡ T.loan tray.old }
     {
         for (index, place) in self.places.iter().enumerate() {

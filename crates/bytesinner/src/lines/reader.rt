@@ -1,9 +1,10 @@
 // The pieces of a text without an empty last one, one after another.
-ghost use Rattle.std.specs.Prelude.{◌≡◌};
+ghost use Rattle.std.specs.Prelude.{◌≡◌, refl};
 ghost use Rattle.std.specs.Iterator.{item_count};
 ghost use Rattle.cuts.specs.Cuts.{at_opening};
-ghost use Rattle.bytesinner.specs.lines.Reader.{state, left, IsOn, LineStep};
-ghost use Rattle.bytesinner.specs.lines.Yields.{next-yields, counts_down};
+ghost use Rattle.bytesinner.specs.lines.Reader.{state, left_lines, IsOn, LineStep};
+ghost use Rattle.bytesinner.specs.lines.Few.{left_lines-few};
+ghost use Rattle.bytesinner.specs.lines.Yields.{next-yields};
 
 use anystr::anystr::AnyStr;
 use cutters::bound::UNBOUNDED;
@@ -39,7 +40,7 @@ impl<S: AnyStr, F: Searcher<S> + Drop> Iterator for Lines<S, F> {
     // the next line, and the state of the cutter after it
     ghost next_gives = { LineStep };
 
-    ghost remaining = { item_count left };
+    ghost remaining = { item_count left_lines };
 
     // With its end a line goes on to where the cutter stands after it.
     fn next(&mut self) -> Option<Piece> {
@@ -61,7 +62,7 @@ impl<S: AnyStr, F: Searcher<S> + Drop> Iterator for Lines<S, F> {
 }
 
 impl<S: AnyStr, F: Searcher<S> + Drop> Pieces for Lines<S, F> {
-    ghost left = { left };
+    ghost left = { left_lines };
 
     ghost asked = { λ _. tt };
 
@@ -70,6 +71,6 @@ impl<S: AnyStr, F: Searcher<S> + Drop> Pieces for Lines<S, F> {
 
     ghost counts = { λ l. record {
       all = refl;
-      few = left-few l (F.lawful l.cutter.searcher l.cutter.text) (S.few l.cutter.text);
+      few = left_lines-few l (F.lawful l.cutter.searcher l.cutter.text) (S.few l.cutter.text);
     } };
 }

@@ -5,7 +5,7 @@ ghost use Rattle.anystr.specs.Refusals.{code};
 ghost use Rattle.searchers.specs.bytesets.ByteSets.{has_byte};
 ghost use Rattle.trays.specs.Trays.{Fills};
 ghost use Rattle.bytesinner.specs.tables.Tables.{Appends};
-ghost use Rattle.bytesinner.specs.tables.Translations.{full, kept, table_in, delete_in};
+ghost use Rattle.bytesinner.specs.tables.Translations.{is_full, kept_bytes, table_in, delete_in};
 ghost use Rattle.bytesinner.specs.tables.Translations.{translate_of, Meant, InPlace, Without};
 
 use super::identity::identity;
@@ -31,7 +31,7 @@ impl<'a> ByteInnerTranslateOptions<'a> {
     // bytes.
     fn get_value(self) -> Result<([u8; BYTE_VALUES], &'a [u8]), Refusal>
         ensures { MatchResult result (λ v. Meant self.entry v.0 v.1.now)
-            (λ e. (full (table_in self.entry) ≡ false) × (code e ≡ (4, 0))) }
+            (λ e. (is_full (table_in self.entry) ≡ false) × (code e ≡ (4, 0))) }
     {
         let table = match self.table {
             Some(bytes) => bytes.try_into().map_err(|_| Refusal::BadTable)?,
@@ -47,7 +47,7 @@ impl<'a> ByteInnerTranslateOptions<'a> {
 
 // How many of the bytes stay.
 fn kept_len(bytes: &[u8], gone: &ByteSet) -> usize
-    ensures { result ≡ length (kept (has_byte gone.now) bytes.now) }
+    ensures { result ≡ length (kept_bytes (has_byte gone.now) bytes.now) }
 {
     bytes.iter().filter(|b| !gone.contains(**b)).count()
 }

@@ -1,9 +1,10 @@
 // The runs of a text between whitespace, one after another.
-ghost use Rattle.std.specs.Prelude.{◌≡◌, ◌≤◌, length};
+ghost use Rattle.std.specs.Prelude.{◌≡◌, ◌≤◌, length, refl};
 ghost use Rattle.std.specs.Iterator.{item_count};
-ghost use Rattle.bytesinner.specs.words.Words.{space, stretch_len as stretch_of};
-ghost use Rattle.bytesinner.specs.words.Runs.{left, IsOn, RunStep};
-ghost use Rattle.bytesinner.specs.words.Yields.{next-yields, counts_down};
+ghost use Rattle.bytesinner.specs.words.Words.{is_space, stretch_len};
+ghost use Rattle.bytesinner.specs.words.Runs.{bytes, left_runs, IsOn, RunStep};
+ghost use Rattle.bytesinner.specs.words.Few.{runs_left-few};
+ghost use Rattle.bytesinner.specs.words.Yields.{next-yields};
 
 use anystr::anystr::AnyStr;
 use cutters::piece::Piece;
@@ -18,14 +19,14 @@ pub struct Runs<S: AnyStr> {
 
 // Whether a byte is whitespace.
 fn is_space(byte: u8) -> bool
-    ensures { result ≡ space byte }
+    ensures { result ≡ is_space byte }
 {
     matches!(byte, b' ' | b'\t' | b'\n' | 0x0c | b'\r' | 0x0b)
 }
 
 // How many bytes at the front are whitespace, or, where `spaces` is false, are none.
 fn stretch_len(bytes: &[u8], spaces: bool) -> usize
-    ensures value { result ≡ stretch_of bytes.now spaces }
+    ensures value { result ≡ stretch_len bytes.now spaces }
     ensures within { result ≤ length bytes.now }
 {
     bytes
@@ -49,7 +50,7 @@ impl<S: AnyStr> Iterator for Runs<S> {
     // the next run, and the place after it
     ghost next_gives = { RunStep S.AnyStr };
 
-    ghost remaining = { item_count (left S.AnyStr) };
+    ghost remaining = { item_count (left_runs S.AnyStr) };
 
     fn next(&mut self) -> Option<Piece> {
         let rest = self.text.as_bytes().get(self.place..)?;
@@ -66,7 +67,7 @@ impl<S: AnyStr> Iterator for Runs<S> {
 }
 
 impl<S: AnyStr> Pieces for Runs<S> {
-    ghost left = { left S.AnyStr };
+    ghost left = { left_runs S.AnyStr };
 
     ghost asked = { λ _. tt };
 
@@ -74,6 +75,6 @@ impl<S: AnyStr> Pieces for Runs<S> {
 
     ghost counts = { λ s. record {
       all = refl;
-      few = left-few s.place (bytes S.AnyStr s) (S.few s.text);
+      few = runs_left-few s.place (bytes S.AnyStr s) (S.few s.text);
     } };
 }

@@ -5,7 +5,7 @@ ghost use Rattle.anystr.specs.Places.{Lists};
 ghost use Rattle.anystr.specs.Texts.{bytes_of};
 ghost use Rattle.searchers.specs.Ascii.{AsciiApart};
 ghost use Rattle.bytesinner.specs.Written.{OfWritten, Cuttable};
-ghost use Rattle.bytesinner.specs.words.Words.{runs, alone as alone_of, AllRuns};
+ghost use Rattle.bytesinner.specs.words.Words.{runs, lone_count, AllRuns};
 ghost use Rattle.bytesinner.specs.words.Words.{words_of, rwords_of};
 
 use super::runs::Runs;
@@ -29,7 +29,7 @@ impl Shares {
     // At most `maxsplit` runs have a place alone; a negative bound is none.
     fn new<S: AnyStr>(text: &S, maxsplit: i64) -> Shares
         ensures total { result.total ≡ length (runs (bytes_of S.AnyStr text.now)) }
-        ensures alone { result.alone ≡ alone_of result.total maxsplit }
+        ensures alone { result.alone ≡ lone_count result.total maxsplit }
     {
         let total = Runs::new(*text).count();
         let alone = usize::try_from(maxsplit).map_or(total, |bound| total.min(bound));

@@ -1,10 +1,12 @@
 // The calls on a cutter from the end.
-ghost use Rattle.std.specs.Prelude.{◌≡◌};
+ghost use Rattle.std.specs.Prelude.{◌≡◌, refl};
 ghost use Rattle.std.specs.Iterator.{item_count};
 ghost use Rattle.searchers.specs.Marks.{OnBoundaries};
 ghost use Rattle.cuts.specs.Cuts.{at_opening};
-ghost use Rattle.bytesinner.specs.splits.Back.{state, left, IsOn, BackStep, CutsNext};
-ghost use Rattle.bytesinner.specs.splits.Yields.{next-yields, counts_down};
+ghost use Rattle.cuts.proofs.Back.{back_few};
+ghost use Rattle.bytesinner.specs.splits.Back.{opening, state, left_pieces};
+ghost use Rattle.bytesinner.specs.splits.Back.{IsOn, BackStep, CutsNext};
+ghost use Rattle.bytesinner.specs.splits.Yields.{next-yields};
 
 use super::BackCutter;
 use anystr::anystr::AnyStr;
@@ -50,7 +52,7 @@ impl<S: AnyStr, F: ReverseSearcher<S> + Drop> Iterator for BackCutter<S, F> {
     // what comes next from the end, and the state after it
     ghost next_gives = { BackStep };
 
-    ghost remaining = { item_count left };
+    ghost remaining = { item_count left_pieces };
 
     fn next(&mut self) -> Option<Piece> {
         if self.progress.spent {
@@ -72,7 +74,7 @@ impl<S: AnyStr, F: ReverseSearcher<S> + Drop> Iterator for BackCutter<S, F> {
 }
 
 impl<S: AnyStr, F: ReverseSearcher<S> + Drop> Pieces for BackCutter<S, F> {
-    ghost left = { left };
+    ghost left = { left_pieces };
 
     ghost asked = { λ _. tt };
 

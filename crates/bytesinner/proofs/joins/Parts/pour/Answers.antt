@@ -6,7 +6,7 @@ use Rattle.anystr.specs.Texts.{bytes_of}
 use Rattle.anystr.proofs.Parts.{concat-part}
 use Rattle.trays.specs.Trays.{gained}
 use Rattle.cutters.proofs.Pouring.{Pouring}
-use Rattle.bytesinner.specs.joins.Parts.{joined}
+use Rattle.bytesinner.specs.joins.Parts.{joined_parts}
 use Rattle.bytesinner.proofs.joins.Joining.{nowhere, rest_of, good-here, good_more, first-part, part_more, took_next}
 use Rattle.bytesinner.proofs.joins.Parts.pour.Goals as goal
 use Rattle.bytesinner.proofs.joins.Parts.pour.Goals.{then-index-gt0, else-index-gt0}
@@ -24,7 +24,7 @@ loop-index-preserved g c =
     let is = concat-part es _ _ _ (c.get_bytes.ensures.given cut) in
     let contents = g.T.AnyStrContainer.contents in
     let loan = g.T.AnyStrContainer.loan in
-    let full = gained (contents c.args.tray.now) (joined parts) in
+    let full = gained (contents c.args.tray.now) (joined_parts parts) in
     let later = rest_of sep (i + 1) (map (part (concat es)) (stretches (drop (i + 1) places))) in
     let here = part (concat es) (stretch (get_or places i nowhere)) in
     let so_far : g.row.T.Denot → Type 0 =

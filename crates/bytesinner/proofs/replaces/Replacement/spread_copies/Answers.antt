@@ -10,7 +10,7 @@ use Rattle.trays.specs.Trays.{gained}
 use Rattle.cutters.proofs.Pouring.{Pouring}
 use Rattle.bytesinner.specs.replaces.Replacements.{copies_spread}
 use Rattle.bytesinner.proofs.joins.Joining.{took_next}
-use Rattle.bytesinner.proofs.replaces.Spreading.{spread-copies, copies-few}
+use Rattle.bytesinner.proofs.replaces.Spreading.{spread_text-copy_count, copy_count-few}
 use Rattle.bytesinner.proofs.replaces.Turning.{to-come, all_poured, left, copy-ahead, last-copy, no-copy}
 use Rattle.bytesinner.proofs.replaces.Walking.{offset-all, element_here, none_here, rest-bytes}
 use Rattle.bytesinner.proofs.replaces.Replacement.spread_copies.Goals as goal
@@ -28,7 +28,7 @@ overflow_add-end g c =
 pub loop-init : goal.loop-init
 loop-init g c =
     let r = c.args.self.now in
-    let same = spread-copies (bytes_of g.S.AnyStr r.to) r.bound (g.S.AnyStr.elements r.text) in
+    let same = spread_text-copy_count (bytes_of g.S.AnyStr r.to) r.bound (g.S.AnyStr.elements r.text) in
     record { place = refl; poured = to-come _ _ _ (rw c.requires.count (sym same)) c.requires.fits; same_loan = refl }
 
 pub loop-preserved : goal.loop-preserved
@@ -63,7 +63,7 @@ loop-preserved g c =
           record { place = w.place-is ∙ e.next; poured = done.0; same_loan = done.1 }
       | in_default w ↦
           let past = none_here es k c.loop.place filled inv.place w.in_default.ensures.element in
-          let few : count ≤ suc (length es) = omega (arith, c.requires.count, copies-few (length es) r.bound) in
+          let few : count ≤ suc (length es) = omega (arith, c.requires.count, copy_count-few (length es) r.bound) in
           let last = last-copy to es count k lt few past in
           let copied = took_next to later _ (coded c.push_str.result) last inv.poured first.fills in
           let done = subst so_far (sym w.tray-is) (copied, first_loan) in

@@ -4,9 +4,9 @@ use Rattle.std.proofs.lemmas.List.{take_all, length-map, length-drop}
 use Rattle.anystr.specs.OfBytes.{singles, concat-singles}
 use Rattle.searchers.specs.bytesets.Sets.{among, member}
 use Rattle.trays.specs.Trays.{gained}
-use Rattle.bytesinner.specs.tables.Translations.{image, kept, table_in, delete_in, kept_images}
+use Rattle.bytesinner.specs.tables.Translations.{image, kept_bytes, table_in, delete_in, kept_images}
 use Rattle.bytesinner.proofs.tables.Done.{done, length-done}
-use Rattle.bytesinner.proofs.tables.Translated.{kept-is, undeleted, unmapped}
+use Rattle.bytesinner.proofs.tables.Translated.{kept_bytes-is, undeleted, unmapped}
 use Rattle.bytesinner.proofs.tables.translate.translate.Goals as goal
 
 pub returns-then-needed-free-clause-fills : goal.returns-then-needed-free-clause-fills
@@ -16,9 +16,9 @@ returns-then-needed-free-clause-fills g c =
     let delete = delete_in c.args.options in
     let meant = c.in_ok-table.ensures in
     let shown : bytes ≡ text = c.as_bytes-bytes.ensures ∙ concat-singles text in
-    let is = ap length (kept-is (member c.loop-d.gone.has) delete c.in_ok-table.delete.now text bytes c.loop-d.d-index
+    let is = ap length (kept_bytes-is (member c.loop-d.gone.has) delete c.in_ok-table.delete.now text bytes c.loop-d.d-index
     c.loop-d-test.false c.loop-d.invariant meant.goes shown) in
-    let long = length-map (kept (among delete) text) (image (table_in c.args.options)) in
+    let long = length-map (kept_bytes (among delete) text) (image (table_in c.args.options)) in
     rw meant.long (omega arith, cc, refl)
 
 -- a byte that stays has room
@@ -44,12 +44,12 @@ returns g c =
     let tray = g.T.AnyStrContainer.contents c.args.tray.now in
     let meant = c.in_ok-table.ensures in
     let shown : bytes ≡ text = c.as_bytes-bytes.ensures ∙ concat-singles text in
-    let is = kept-is (member c.loop-d.gone.has) (delete_in options) c.in_ok-table.delete.now text bytes c.loop-d.d-index
+    let is = kept_bytes-is (member c.loop-d.gone.has) (delete_in options) c.in_ok-table.delete.now text bytes c.loop-d.d-index
     c.loop-d-test.false c.loop-d.invariant meant.goes shown in
     let images = kept_images options text in
     let made : g.T.AnyStrContainer.contents c.loop-b.tray ≡ gained tray images =
     rw (take_all c.loop-b.b-index bytes c.loop-b-test.false, is) at inv.gained in
-    let long = length-map (kept (among (delete_in options)) text) (image (table_in options)) in
+    let long = length-map (kept_bytes (among (delete_in options)) text) (image (table_in options)) in
     let fits : length images ≤ length tray.spare = omega (arith, ap length is) in
     record {
       fills = rw meant.long (fits, made);

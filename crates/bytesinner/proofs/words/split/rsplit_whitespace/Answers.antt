@@ -4,7 +4,7 @@ use Rattle.std.specs.declared.iter.Skip.{Skip}
 use Rattle.searchers.specs.Marks.{Span}
 use Rattle.cutters.specs.pieces.Skipped.{left_after}
 use Rattle.anystr.specs.declared.anystr.AnyStr
-use Rattle.bytesinner.specs.words.Runs.{left}
+use Rattle.bytesinner.specs.words.Runs.{left_runs}
 use Rattle.bytesinner.proofs.words.Opened.{opened-left}
 use Rattle.bytesinner.specs.declared.words.runs.Runs.{Runs}
 use Rattle.bytesinner.proofs.words.Bounded.{wanted, given, filled-front, rwords_length, rwords_put, rwords_put_cut}
@@ -13,8 +13,8 @@ use Rattle.bytesinner.proofs.words.split.rsplit_whitespace.Goals as goal
 
 -- what is left of the runs behind those that are passed over
 skipped : {S C : Type 0} (s : AnyStr.Ghosts S C) (last : Skip (Runs S C)) {all : Runs S C} {n : ℕ} {rs : List Span}
-    → skip_source last ≡ all → skip_count last ≡ n → left s all ≡ rs → left_after (left s) last ≡ drop n rs
-skipped s last {n = n} from over are = (λ i. drop (over i) (left s (from i))) ∙ ap (drop n) are
+    → skip_source last ≡ all → skip_count last ≡ n → left_runs s all ≡ rs → left_after (left_runs s) last ≡ drop n rs
+skipped s last {n = n} from over are = (λ i. drop (over i) (left_runs s (from i))) ∙ ap (drop n) are
 
 pub returns-in_err-n : goal.returns-in_err-n
 returns-in_err-n g c =

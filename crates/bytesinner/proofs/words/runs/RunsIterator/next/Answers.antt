@@ -2,7 +2,7 @@ use Rattle.std.proofs.Common.{◌+◌, Some, sym, refl, ap, arith}
 use Rattle.cutters.specs.Calls.{span}
 use Rattle.cutters.proofs.Yielding.{goes_on}
 use Rattle.bytesinner.specs.words.Words.{first_run}
-use Rattle.bytesinner.specs.words.Runs.{bytes, left, RunStep}
+use Rattle.bytesinner.specs.words.Runs.{bytes, left_runs, RunStep}
 use Rattle.bytesinner.specs.words.Yields.{next-yields}
 use Rattle.bytesinner.proofs.words.Scan.{scanned, none_left, run_after}
 use Rattle.bytesinner.proofs.words.runs.RunsIterator.next.Goals as goal
@@ -25,4 +25,4 @@ returns g c =
       step = ap (first_run rs.place) (sym (run_after (bytes g.S.AnyStr rs) rs.place passed len s (omega arith)));
       same = refl;
     } in
-    record { steps = step; goes = goes_on span (left g.S.AnyStr) rs run _ (next-yields g.S.AnyStr rs run _ step) }
+    record { steps = step; goes = goes_on span (left_runs g.S.AnyStr) rs run _ (next-yields g.S.AnyStr rs run _ step) }
