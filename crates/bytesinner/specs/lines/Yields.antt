@@ -2,7 +2,7 @@
 use Rattle.std.specs.Prelude.{◌≡◌, [], ◌∷◌, Bool, List, Option}
 use Rattle.std.specs.Option.{MatchOption}
 use Rattle.std.specs.Iterator.{YieldsFirstBy}
-use Rattle.std.proofs.Common.{◌∙◌, ap, sym, subst}
+use Rattle.std.proofs.Common.{refl}
 use Rattle.anystr.specs.declared.anystr.AnyStr
 use Rattle.searchers.specs.Marks.{Span, Lawful}
 use Rattle.searchers.specs.declared.searcher.Searcher
@@ -21,13 +21,7 @@ module _ {S F C : Type 0} {s : AnyStr.Ghosts S C} {f : Searcher.Ghosts F S C} (l
   pub next-yields : (r : Option Piece) → Lawful (opening l).marks (size (opening l)) → LineStep l r m
       → YieldsFirstBy span left_lines l r m
   next-yields r law n =
-      let first = line_yields (opening l) law l.keepends (state l).place (state l).made (state l).spent in
-      subst (λ (ls : List Span). MatchOption r ((left_lines l ≡ []) × (ls ≡ [])) (λ p. left_lines l ≡ span p ∷ ls))
-      (sym after)
-      (seen_yields span left_at (state l) (state m) r (next_line (opening l) l.keepends (state l)) n.step first)
-    where
-      left_at : State → List Span
-      left_at = lines_left (opening l) l.keepends
-
-      after : left_lines m ≡ left_at (state m)
-      after = λ i. lines_left (same_opening l.cutter m.cutter n.same i) (n.same_ends i) (state m)
+      let now = lines_left (opening l) l.keepends in
+      let same = same_opening l.cutter m.cutter n.same in
+      let after : left_lines m ≡ now (state m) = λ i. lines_left (same i) (n.same_ends i) (state m) in
+      seen_yields span left_lines now l r m refl after n.step (line_yields (opening l) law l.keepends _ _ _)

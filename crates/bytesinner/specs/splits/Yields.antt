@@ -2,7 +2,7 @@
 use Rattle.std.specs.Prelude.{◌≡◌, [], ◌∷◌, Option}
 use Rattle.std.specs.Option.{MatchOption}
 use Rattle.std.specs.Iterator.{YieldsFirstBy}
-use Rattle.std.proofs.Common.{sym, subst}
+use Rattle.std.proofs.Common.{refl}
 use Rattle.anystr.specs.declared.anystr.AnyStr
 use Rattle.searchers.specs.Marks.{Lawful}
 use Rattle.searchers.specs.declared.searcher.Searcher
@@ -24,9 +24,5 @@ module _ {S F C : Type 0} {s : AnyStr.Ghosts S C} {f : Searcher.Ghosts F S C} (c
   pub next-yields : (r : Option Piece) → Lawful (opening c).marks (size (opening c)) → BackStep c r d
       → YieldsFirstBy span left_pieces c r d
   next-yields r law n =
-      let first = back_yields (opening c) law (state c).place (state c).made (state c).spent in
-      subst
-      (λ (o : Opening). let ps = left_back o (state d) in
-      MatchOption r ((left_pieces c ≡ []) × (ps ≡ [])) (λ p. left_pieces c ≡ span p ∷ ps))
-      (sym (same_opening n.same))
-      (seen_yields span (left_back (opening c)) (state c) (state d) r (next_back (opening c) (state c)) n.step first)
+      let after : left_pieces d ≡ left_back (opening c) (state d) = λ i. left_back (same_opening n.same i) (state d) in
+      seen_yields span left_pieces (left_back (opening c)) c r d refl after n.step (back_yields (opening c) law _ _ _)

@@ -70,13 +70,6 @@ module _ {S C : Type 0} (s : AnyStr.Ghosts S C) where
   pub next-yields : (rs : Runs S C) (r : Option Piece) (ss : Runs S C) → RunStep s rs r ss
       → YieldsFirstBy span (left_runs s) rs r ss
   next-yields rs r ss n =
-      subst
-      (λ (ms : List Span). MatchOption r ((left_runs s rs ≡ []) × (ms ≡ [])) (λ p. left_runs s rs ≡ span p ∷ ms))
-      (λ i. runs_left (same i) ss.place)
-      (seen_yields span (runs_left all) rs.place ss.place r (next_run all rs.place) n.step (run_yields all rs.place))
-    where
-      all : List ℕ
-      all = bytes s rs
-
-      same : all ≡ bytes s ss
-      same = λ i. concat (s.elements (sym n.same i))
+      let now = runs_left (bytes s rs) in
+      let after : left_runs s ss ≡ now ss.place = λ i. runs_left (concat (s.elements (n.same i))) ss.place in
+      seen_yields span (left_runs s) now rs r ss refl after n.step (run_yields (bytes s rs) rs.place)
