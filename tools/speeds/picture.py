@@ -8,6 +8,11 @@ FASTER, SLOWER, PEER = '#2e8b57', '#d2691e', '#444444'
 WIDEST = 4
 
 
+def shown(ratio):
+    """A ratio with enough digits to tell it from none."""
+    return f'{ratio:.2f}' if ratio >= 0.1 else f'{ratio:.1g}'
+
+
 def text(x, y, words, anchor='start', **more):
     style = ''.join(f' {name.replace("_", "-")}="{value}"' for name, value in more.items())
     return f'<text x="{x:.1f}" y="{y:.1f}" text-anchor="{anchor}"{style}>{escape(words)}</text>'
@@ -48,7 +53,7 @@ def panel(left, heading, rows, low, high):
         a, b = sorted([at(1), at(ratio)])
         parts += [f'<rect x="{a:.1f}" y="{y - 6:.1f}" width="{b - a:.1f}" height="12" fill="{colour}"/>',
                   crate_mark(at(crate / better), y), cpython_mark(at(cpython / better), y),
-                  text(left + PANEL + 58, y + 4, f'{ratio:.2f}×', 'end', fill=colour, font_weight='bold')]
+                  text(left + PANEL + 58, y + 4, f'{shown(ratio)}×', 'end', fill=colour, font_weight='bold')]
     return parts
 
 

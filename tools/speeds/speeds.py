@@ -15,7 +15,7 @@ import sys
 
 import sheets
 from cpython import ROWS
-from picture import picture
+from picture import picture, shown
 from programs import CPYTHON, NAMES, PROGRAM, ROOT, Job, built, differing, measure, short
 
 PLACE = os.path.join(ROOT, 'target', 'speeds')
@@ -74,7 +74,7 @@ def speeds_of(of_job, size):
 def line_of(row, of_job, size):
     speeds, least, most = speeds_of(of_job, size)
     ratio = speeds[0] / max(speeds[1:])
-    return [f'`{short(row)}`', *(f'{speed:,.0f}' for speed in speeds), f'{ratio:.2f}', f'{least:.2f} to {most:.2f}']
+    return [f'`{short(row)}`', *(f'{speed:,.0f}' for speed in speeds), shown(ratio), f'{shown(least)} to {shown(most)}']
 
 
 def report_speeds(commands, rows, sizes, rounds, file):
