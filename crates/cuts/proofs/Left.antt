@@ -8,8 +8,8 @@ use Rattle.cuts.specs.Cuts.{Opening, size, cut_from, State, at, to_cut, pieces_l
 use Rattle.cuts.specs.Runs.{Step, next}
 use Rattle.cuts.proofs.Greedy.{Greedy, greedy_one}
 use Rattle.cuts.proofs.Listed.{greedy_cuts}
-use Rattle.cuts.proofs.Found.{listed-past}
-use Rattle.cuts.proofs.Reach.{none-some}
+use Rattle.cuts.proofs.Found.{marks_from_past}
+use Rattle.cuts.proofs.Reach.{none_some}
 
 -- the first of the marks still to be cut, and those after it
 pub record First (on : Opening) (made place : ℕ) (m : Span) (ms : List Span) : Type 0 where
@@ -22,14 +22,14 @@ pub record First (on : Opening) (made place : ℕ) (m : Span) (ms : List Span) :
 abbrev pub to_pour : Opening → List ℕ → State → List ℕ
 to_pour on to s = cond s.spent [] (poured on.bytes to s.place (to_cut on s))
 
-pub nexts-more : (on : Opening) (n : ℕ) (s : State) → nexts on (suc n) s ≡ (next_of on (nexts on n s)).1
-nexts-more on zero s = refl
-nexts-more on (suc n) s = nexts-more on n (next_of on s).1
+pub nexts_more : (on : Opening) (n : ℕ) (s : State) → nexts on (suc n) s ≡ (next_of on (nexts on n s)).1
+nexts_more on zero s = refl
+nexts_more on (suc n) s = nexts_more on n (next_of on s).1
 
 module _ (on : Opening) (law : Lawful on.marks (size on)) where
   pub first : (made place : ℕ) (m : Span) (ms : List Span) → cut_from on made place ≡ m ∷ ms → First on made place m ms
   first made place m ms e = ⊎_elim
-      (λ past. let none = listed-past on.marks on.bound made place 0 (size on) (omega arith) in let z = ap length (sym none ∙ e) in absurd (omega arith))
+      (λ past. let none = marks_from_past on.marks on.bound made place 0 (size on) (omega arith) in let z = ap length (sym none ∙ e) in absurd (omega arith))
       (λ within.
       let g : Greedy on.marks on.bound made place (m ∷ ms) (size on) = rw e at (greedy_cuts on.bound law made place within) in
       let inside = law.within _ _ g.0.is in
@@ -85,7 +85,7 @@ pub record Gave (on : Opening) (s : State) (p : Span) (t : State) : Type 0 where
   pub ended : t.spent ≡ true → t.place ≡ size on
 
 pub gave : (on : Opening) → Lawful on.marks (size on) → (place made : ℕ) (spent : Bool) (p : Span) (t : State) → Step on (at place made spent) (next (Some p)) t → Gave on (at place made spent) p t
-gave on law place made true p t h = absurd (none-some p (sym h.0))
+gave on law place made true p t h = absurd (none_some p (sym h.0))
 gave on law place made false p t h =
     let n = nexted on law place made in
     let same : p ≡ (place, n.end) = let e : Some p ≡ Some (place, n.end) = h.0 ∙ (λ i. (n.is i).0) in cc in

@@ -6,10 +6,10 @@ use Rattle.anystr.specs.declared.refusal.Refusal.TheVariants.{TooFew}
 use Rattle.anystr.specs.Refusals.{code}
 use Rattle.searchers.specs.Marks.{Span, Lawful}
 use Rattle.cuts.specs.Cuts.{Opening, size, cut_from, State, at, at_opening, to_cut, pieces_left}
-use Rattle.cuts.specs.Runs.{Cut, marks_of, Lie, count, piece, Event, next, skip, rest, pour, Step, Run, none, more, done, Given, Answers, RunsLaw}
-use Rattle.cuts.proofs.Greedy.{Greedy, lie-within, greedy_rule, rule-greedy_0, rows_one, greedy_front}
+use Rattle.cuts.specs.Runs.{Cut, marks_of, Lie, count, piece, Event, next, skip, rest, pour, Step, Run, none, more, pieces_done, Given, Answers, RunsLaw}
+use Rattle.cuts.proofs.Greedy.{Greedy, lie_within, greedy_rule, rule-greedy_0, rows_one, greedy_front}
 use Rattle.cuts.proofs.Listed.{greedy_cuts}
-use Rattle.cuts.proofs.Reach.{whole_of, Core, ahead, shut, Keeps, none-some, one, left-ahead, left-shut, left, many, begins, to_the_end, pour-ends}
+use Rattle.cuts.proofs.Reach.{whole_of, Core, ahead, shut, Keeps, none_some, one, left-ahead, left-shut, left, many, begins, to_the_end, pour_ends}
 
 abbrev total_of : Opening → ℕ
 total_of on = suc (length (whole_of on))
@@ -18,13 +18,13 @@ record Reached (on : Opening) (es : List Event) (s : State) : Type 0 where
   row : List Cut
   last : Option Span
   core : Core on s row last
-  counted : count row last ≡ done (total_of on) es
+  counted : count row last ≡ pieces_done (total_of on) es
   given : Given (total_of on) es row last
 
 given-keeps : (total : ℕ) (es : List Event) (row : List Cut) (last : Option Span) (row' : List Cut) (last' : Option Span) → Keeps row last row' last' → Given total es row last → Given total es row' last'
 given-keeps total [] row last row' last' k g = tt
 given-keeps total (next None ∷ es) row last row' last' k g = given-keeps total es row last row' last' k g
-given-keeps total (next (Some p) ∷ es) row last row' last' k g = (k (done total es) p g.0, given-keeps total es row last row' last' k g.1)
+given-keeps total (next (Some p) ∷ es) row last row' last' k g = (k (pieces_done total es) p g.0, given-keeps total es row last row' last' k g.1)
 given-keeps total (skip _ _ ∷ es) row last row' last' k g = given-keeps total es row last row' last' k g
 given-keeps total (rest _ ∷ es) row last row' last' k g = given-keeps total es row last row' last' k g
 given-keeps total (pour _ _ _ _ ∷ es) row last row' last' k g = given-keeps total es row last row' last' k g
@@ -37,7 +37,7 @@ passed false c h = cc
 module _ {on : Opening} where
   -- the state after a call is one of which it is known what is gone
   comes : (es : List Event) {s t : State} {row : List Cut} {last : Option Span} → t ≡ s → Core on s row last
-      → count row last ≡ done (total_of on) es → Given (total_of on) es row last → Reached on es t
+      → count row last ≡ pieces_done (total_of on) es → Given (total_of on) es row last → Reached on es t
   comes es {row = row} {last = last} e k n g = record { row = row; last = last; core = subst (λ (u : State). Core on u row last) (sym e) k; counted = n; given = g }
 
   so_far : {s : State} {row : List Cut} {last : Option Span} → Core on s row last → whole_of on ≡ marks_of row ++ to_cut on s
@@ -57,16 +57,16 @@ module _ (on : Opening) (law : Lawful on.marks (size on)) where
   greedy (shut l w) = rw w at whole-greedy
 
   step : (es : List Event) (s t : State) {row : List Cut} {last : Option Span} → Core on s row last
-      → count row last ≡ done (total_of on) es → Given (total_of on) es row last
+      → count row last ≡ pieces_done (total_of on) es → Given (total_of on) es row last
       → (e : Event) → Step on s e t → Reached on (e ∷ es) t
-  step es s t (ahead l w) n g (next None) h = let o = one on law l w in absurd (none-some o.gave (h.0 ∙ (λ i. (o.is i).0)))
+  step es s t (ahead l w) n g (next None) h = let o = one on law l w in absurd (none_some o.gave (h.0 ∙ (λ i. (o.is i).0)))
   step es s t (shut l w) n g (next None) h = comes (next None ∷ es) h.1 (shut l w) n g
   step es s t {row} {last} (ahead l w) n g (next (Some p)) h =
       let o = one on law l w in
       let same : Some o.gave ≡ Some p = sym (h.0 ∙ (λ i. (o.is i).0)) in
       comes (next (Some p) ∷ es) (h.1 ∙ (λ i. (o.is i).1)) o.core (o.more ∙ ap suc n)
       (subst (λ (k : ℕ). piece o.row' o.last' k ≡ Some p) n (o.here ∙ same), given-keeps _ es row last o.row' o.last' o.keeps g)
-  step es s t (shut l w) n g (next (Some p)) h = absurd (none-some p (sym h.0))
+  step es s t (shut l w) n g (next (Some p)) h = absurd (none_some p (sym h.0))
   step es s t {row} {last} k n g (skip m (Ok tt)) h =
       let some : m ≤ length (pieces_left on s) = leb-true _ _ (passed _ _ h.0) in
       let r = many on law m k (omega (arith, left k)) in
@@ -77,7 +77,7 @@ module _ (on : Opening) (law : Lawful on.marks (size on)) where
       let ms = cut_from on m p in
       let all : length row + suc (length ms) ≡ total_of on = left-ahead _ row ms w in
       let r = many on law (suc (length ms)) {s = at p m false} (ahead l w) (omega arith) in
-      comes (pour to tray (Ok tt) tray' ∷ es) (h.1 ∙ sym (pour-ends on law p m ms (lie-within (size on) 0 row p l) refl)) r.core (omega (arith, r.more)) (given-keeps _ es row last r.row' r.last' r.keeps g)
+      comes (pour to tray (Ok tt) tray' ∷ es) (h.1 ∙ sym (pour_ends on law p m ms (lie_within (size on) 0 row p l) refl)) r.core (omega (arith, r.more)) (given-keeps _ es row last r.row' r.last' r.keeps g)
   step es s t (shut l w) n g (pour to tray (Ok tt) tray') h = let e = h.0.0 in cc
   step es s t k n g (pour to tray (Err c) tray') h = comes (pour to tray (Err c) tray' ∷ es) h.1 k n g
 
@@ -87,10 +87,10 @@ module _ (on : Opening) (law : Lawful on.marks (size on)) where
 
   answers : (s t : State) {row : List Cut} {last : Option Span} → Core on s row last → (e : Event) → Step on s e t
       → Answers on.bytes (total_of on) (count row last) s.place (to_cut on s) e
-  answers s t (ahead l w) (next None) h = let o = one on law l w in absurd (none-some o.gave (h.0 ∙ (λ i. (o.is i).0)))
+  answers s t (ahead l w) (next None) h = let o = one on law l w in absurd (none_some o.gave (h.0 ∙ (λ i. (o.is i).0)))
   answers s t {row} (shut l w) (next None) h = omega (arith, left-shut _ row w)
   answers s t {row} (ahead l w) (next (Some _)) h = omega (arith, left-ahead _ row _ w)
-  answers s t (shut l w) (next (Some q)) h = absurd (none-some q (sym h.0))
+  answers s t (shut l w) (next (Some q)) h = absurd (none_some q (sym h.0))
   answers s t k (skip n r) h = h.0 ∙ ap (λ (x : ℕ). if nat_le n x then Ok tt else Err (code (TooFew x))) (omega (arith, left k))
   answers s t k (rest r) h = h.0
   answers s t {row} (ahead l w) (pour to tray r tray') h =

@@ -5,18 +5,18 @@ use Rattle.anystr.specs.Refusals.{code}
 use Rattle.searchers.specs.Marks.{Marks, Span}
 
 -- the mark that begins at `a`, if one of the `n` ends from `e` on makes one
-abbrev pub begun : Marks → ℕ → ℕ → ℕ → List Span
-begun marks a e zero = []
-begun marks a e (suc n) = cond (marks a e) ((a, e) ∷ []) (begun marks a (suc e) n)
+abbrev pub mark_at : Marks → ℕ → ℕ → ℕ → List Span
+mark_at marks a e zero = []
+mark_at marks a e (suc n) = cond (marks a e) ((a, e) ∷ []) (mark_at marks a (suc e) n)
 
 -- the marks that begin at `a` or after it, up to `n` bytes on, in the order of their starts
-abbrev pub listed : Marks → ℕ → ℕ → List Span
-listed marks a zero = []
-listed marks a (suc n) = begun marks a (suc a) (suc n) ++ listed marks (suc a) n
+abbrev pub marks_from : Marks → ℕ → ℕ → List Span
+marks_from marks a zero = []
+marks_from marks a (suc n) = mark_at marks a (suc a) (suc n) ++ marks_from marks (suc a) n
 
 -- every mark of a text of `len` bytes, in the order of their starts
 abbrev pub all_marks : Marks → ℕ → List Span
-all_marks marks len = listed marks 0 len
+all_marks marks len = marks_from marks 0 len
 
 -- any number of cuts is fewer than a negative bound
 abbrev pub fewer : ℕ → ℤ → Bool

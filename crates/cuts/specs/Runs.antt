@@ -19,16 +19,16 @@ abbrev pub Free : List Span → Span → Type 0
 Free cut m = (c : Span) → In c cut → c.0 < m.0 → Overlap c m → ⊥
 
 -- how many cuts begin before `a`
-abbrev pub earlier : List Span → ℕ → ℕ
-earlier [] a = 0
-earlier (c ∷ cs) a = cond (nat_lt c.0 a) 1 0 + earlier cs a
+abbrev pub count_before : List Span → ℕ → ℕ
+count_before [] a = 0
+count_before (c ∷ cs) a = cond (nat_lt c.0 a) 1 0 + count_before cs a
 
 -- Of the marks that begin before the rest, exactly those are cut that no earlier cut overlaps and whose
 -- earlier cuts are fewer than the bound.
 pub record CutRule (marks : Marks) (bound : ℤ) (rest : ℕ) (cut : List Span) : Type 0 where
   pub marked : (m : Span) → In m cut → IsTrue (marks m.0 m.1) × (m.0 < rest)
-  pub only : (m : Span) → In m cut → Free cut m × IsTrue (fewer (earlier cut m.0) bound)
-  pub every : (m : Span) → IsTrue (marks m.0 m.1) → m.0 < rest → Free cut m → IsTrue (fewer (earlier cut m.0) bound) → In m cut
+  pub only : (m : Span) → In m cut → Free cut m × IsTrue (fewer (count_before cut m.0) bound)
+  pub every : (m : Span) → IsTrue (marks m.0 m.1) → m.0 < rest → Free cut m → IsTrue (fewer (count_before cut m.0) bound) → In m cut
 
 -- a piece with the mark that is cut after it
 abbrev pub Cut : Type 0
@@ -76,21 +76,21 @@ pub data Run (on : Opening) : State → List Event → State → Type 0 where
   more : {s t u : State} {e : Event} {es : List Event} → Run on s es t → Step on t e u → Run on s (e ∷ es) u
 
 -- the pieces given, skipped or poured by a list of calls, the latest call first, of a text with `total` pieces
-abbrev pub done : ℕ → List Event → ℕ
-done total [] = 0
-done total (next None ∷ es) = done total es
-done total (next (Some _) ∷ es) = suc (done total es)
-done total (skip n (Ok _) ∷ es) = done total es + n
-done total (skip n (Err _) ∷ es) = done total es
-done total (rest _ ∷ es) = done total es
-done total (pour _ _ (Ok _) _ ∷ es) = total
-done total (pour _ _ (Err _) _ ∷ es) = done total es
+abbrev pub pieces_done : ℕ → List Event → ℕ
+pieces_done total [] = 0
+pieces_done total (next None ∷ es) = pieces_done total es
+pieces_done total (next (Some _) ∷ es) = suc (pieces_done total es)
+pieces_done total (skip n (Ok _) ∷ es) = pieces_done total es + n
+pieces_done total (skip n (Err _) ∷ es) = pieces_done total es
+pieces_done total (rest _ ∷ es) = pieces_done total es
+pieces_done total (pour _ _ (Ok _) _ ∷ es) = total
+pieces_done total (pour _ _ (Err _) _ ∷ es) = pieces_done total es
 
 -- each next that gave a piece gave the one that stands there
 abbrev pub Given : ℕ → List Event → List Cut → Option Span → Type 0
 Given total [] row last = Unit {0}
 Given total (next None ∷ es) row last = Given total es row last
-Given total (next (Some p) ∷ es) row last = (piece row last (done total es) ≡ Some p) × Given total es row last
+Given total (next (Some p) ∷ es) row last = (piece row last (pieces_done total es) ≡ Some p) × Given total es row last
 Given total (skip _ _ ∷ es) row last = Given total es row last
 Given total (rest _ ∷ es) row last = Given total es row last
 Given total (pour _ _ _ _ ∷ es) row last = Given total es row last
@@ -119,7 +119,7 @@ pub record After (on : Opening) (es : List Event) (s : State) : Type 0 where
   -- the marks that are still to be cut
   pub still : List Span
   pub so_far : whole ≡ marks_of row ++ still
-  pub counted : count row last ≡ done (suc (length whole)) es
+  pub counted : count row last ≡ pieces_done (suc (length whole)) es
   pub given : Given (suc (length whole)) es row last
   pub end_to_end : Lie 0 row last s.place (size on)
   pub rule : CutRule on.marks on.bound s.place (marks_of row)

@@ -6,7 +6,7 @@ use Rattle.anystr.specs.Elements.{Filled}
 use Rattle.anystr.specs.Limits.{most_bytes}
 use Rattle.searchers.specs.substring.Occurrences.{occurrence, occurrence-lawful}
 use Rattle.cuts.specs.Cuts.{all_marks, cut_from, poured}
-use Rattle.cuts.proofs.Sizes.{cuts-within, poured-within}
+use Rattle.cuts.proofs.Sizes.{cuts_within, poured_within}
 use Rattle.bytesinner.specs.replaces.Replaces.{most_result, spread, copies, opening_at, cut_out, replaced, if_short, ReplaceLaw}
 use Rattle.bytesinner.proofs.replaces.Spreading.{spread-with_copies, length-with_copies, spread_none, copies-few}
 use Rattle.bytesinner.proofs.replaces.Cutting.{no_cuts, poured-joined}
@@ -44,9 +44,9 @@ cut-within es from to bound =
     let on = opening_at es from bound in
     let law = occurrence-lawful from (concat es) in
     let ms = cut_from on 0 0 in
-    let few = cuts-within on law ms 0 0 (omega arith) refl in
+    let few = cuts_within on law ms 0 0 (omega arith) refl in
     let times : length ms * length to ≤ suc n * length to = mul-le-mul (omega arith) (omega arith) in
-    omega (arith, poured-within on law to ms 0 0 (omega arith) refl)
+    omega (arith, poured_within on law to ms 0 0 (omega arith) refl)
 
 -- a result within the limits is not too long
 pub short : (bytes all to : List ℕ) → length all ≤ most_bytes → length to ≤ most_bytes

@@ -7,7 +7,7 @@ use Rattle.anystr.specs.declared.anystr.AnyStr
 use Rattle.searchers.specs.Marks.{Span, Lawful}
 use Rattle.searchers.specs.declared.searcher.Searcher
 use Rattle.cuts.specs.Cuts.{size, pieces_left}
-use Rattle.cuts.proofs.Sizes.{pieces-few}
+use Rattle.cuts.proofs.Sizes.{pieces_few}
 use Rattle.bytesinner.specs.lines.Lines.{filled, kept, lines_from}
 use Rattle.bytesinner.specs.lines.Reader.{opening, state, left}
 use Rattle.bytesinner.specs.declared.lines.reader.Lines.{Lines}
@@ -29,4 +29,4 @@ lines-few false len most ps few = omega (arith, filled-few ps)
 module _ {S F C : Type 0} {s : AnyStr.Ghosts S C} {f : Searcher.Ghosts F S C} where
   pub left-few : (l : Lines S F C s f) → Lawful (opening l).marks (size (opening l)) → size (opening l) ≤ most_bytes → length (left l) ≤ suc most_bytes
   left-few l law few =
-      lines-few l.keepends (size (opening l)) (suc most_bytes) (pieces_left (opening l) (state l)) (pieces-few (opening l) law few (state l))
+      lines-few l.keepends (size (opening l)) (suc most_bytes) (pieces_left (opening l) (state l)) (pieces_few (opening l) law few (state l))

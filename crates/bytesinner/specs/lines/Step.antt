@@ -4,7 +4,7 @@ use Rattle.std.proofs.Common.{◌≡◌, ℕ, suc, ◌<◌, ◌≤◌, Bool, tru
 use Rattle.std.proofs.lemmas.Bool.{lt-ltb, le-ltb, ltb-true, ltb-false, cond_both, cond-true, cond-false}
 use Rattle.searchers.specs.Marks.{Span, Lawful}
 use Rattle.cuts.specs.Cuts.{Opening, size, State, at, cut_from, between, next_of, after_cut}
-use Rattle.cuts.proofs.Found.{listed-past}
+use Rattle.cuts.proofs.Found.{marks_from_past}
 use Rattle.cuts.proofs.Left.{first}
 use Rattle.bytesinner.specs.lines.Lines.{filled, start_of, kept, lines_from, lines_left, as_line, next_line}
 
@@ -39,7 +39,7 @@ module _ (on : Opening) (law : Lawful on.marks (size on)) (keep : Bool) where
   none_left : (place made : ℕ) (spent : Bool) → size on ≤ place → lines_left on keep (at place made spent) ≡ []
   none_left place made true past = no_lines keep (size on)
   none_left place made false past =
-      let no_cut : cut_from on made place ≡ [] = listed-past on.marks on.bound made place 0 (size on) (omega arith) in
+      let no_cut : cut_from on made place ≡ [] = marks_from_past on.marks on.bound made place 0 (size on) (omega arith) in
       ap (λ (ms : List Span). lines_from keep (size on) (between place (size on) ms)) no_cut ∙ ap (λ (ls : List Span). cond keep (kept (size on) ls) ls) (no_line place (size on) past) ∙ no_lines keep (size on)
 
   -- an answer, and the state after it, give the first of the lines that are left
