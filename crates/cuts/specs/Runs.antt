@@ -1,11 +1,14 @@
 -- What holds of a cutter after every list of calls, in the words of marks, cuts and pieces. Assumes nothing.
-use Rattle.std.specs.Prelude.{◌≡◌, ℕ, zero, suc, ◌+◌, ◌-◌, ◌<◌, ◌≤◌, cond, if◌then◌else◌, IsTrue, ◌⊎◌, List, [], ◌∷◌, ◌++◌, length, ℤ, Some, None, Ok, Err, Option, Result, nat_le, nat_lt}
+use Rattle.std.specs.Prelude.{◌≡◌, ℕ, zero, suc, ◌+◌, ◌-◌, ◌<◌, ◌≤◌, if◌then◌else◌, IsTrue, ◌⊎◌, nat_le, nat_lt}
+use Rattle.std.specs.Prelude.{List, [], ◌∷◌, ◌++◌, length, ℤ, Some, None, Ok, Err, Option, Result}
 use Rattle.anystr.specs.declared.refusal.Refusal.TheVariants.{Spent, TooFew}
 use Rattle.anystr.specs.Refusals.{code}
 use Rattle.searchers.specs.Marks.{Marks, Span}
 use Rattle.trays.specs.Trays.{Contents, IsFilled}
-use Rattle.cuts.specs.Cuts.{Opening, size, State, at_opening, fewer, poured, next_of, nexts, unless_refused, skip_of, pour_of, poured_out}
+use Rattle.cuts.specs.Cuts.{Opening, size, State, at_opening, fewer, poured, next_of, nexts, unless_refused}
+use Rattle.cuts.specs.Cuts.{skip_of, pour_of, poured_out}
 
+-- a stretch stands in a list
 abbrev pub In : Span → List Span → Type 0
 In m [] = ⊥
 In m (c ∷ cs) = (m ≡ c) ⊎ In m cs
@@ -21,19 +24,21 @@ Free cut m = (c : Span) → In c cut → c.0 < m.0 → Overlap c m → ⊥
 -- how many cuts begin before `a`
 abbrev pub count_before : List Span → ℕ → ℕ
 count_before [] a = 0
-count_before (c ∷ cs) a = cond (nat_lt c.0 a) 1 0 + count_before cs a
+count_before (c ∷ cs) a = (if nat_lt c.0 a then 1 else 0) + count_before cs a
 
 -- Of the marks that begin before the rest, exactly those are cut that no earlier cut overlaps and whose
 -- earlier cuts are fewer than the bound.
 pub record CutRule (marks : Marks) (bound : ℤ) (rest : ℕ) (cut : List Span) : Type 0 where
   pub marked : (m : Span) → In m cut → IsTrue (marks m.0 m.1) × (m.0 < rest)
   pub only : (m : Span) → In m cut → Free cut m × IsTrue (fewer (count_before cut m.0) bound)
-  pub every : (m : Span) → IsTrue (marks m.0 m.1) → m.0 < rest → Free cut m → IsTrue (fewer (count_before cut m.0) bound) → In m cut
+  pub every : (m : Span) → IsTrue (marks m.0 m.1) → m.0 < rest
+      → Free cut m → IsTrue (fewer (count_before cut m.0) bound) → In m cut
 
 -- a piece with the mark that is cut after it
 abbrev pub Cut : Type 0
 Cut = Span × Span
 
+-- the marks of such a row
 abbrev pub marks_of : List Cut → List Span
 marks_of [] = []
 marks_of (x ∷ xs) = x.1 ∷ marks_of xs
@@ -43,8 +48,10 @@ marks_of (x ∷ xs) = x.1 ∷ marks_of xs
 abbrev pub Lie : ℕ → List Cut → Option Span → ℕ → ℕ → Type 0
 Lie p [] None rest len = (p ≡ rest) × (rest ≤ len)
 Lie p [] (Some piece) rest len = (piece.0 ≡ p) × (p ≤ len) × (piece.1 ≡ len) × (rest ≡ len)
-Lie p (x ∷ xs) last rest len = (x.0.0 ≡ p) × (p ≤ x.0.1) × (x.0.1 ≡ x.1.0) × (x.1.0 ≤ x.1.1) × Lie x.1.1 xs last rest len
+Lie p (x ∷ xs) last rest len =
+    (x.0.0 ≡ p) × (p ≤ x.0.1) × (x.0.1 ≡ x.1.0) × (x.1.0 ≤ x.1.1) × Lie x.1.1 xs last rest len
 
+-- the number of pieces, the last among them
 abbrev pub count : List Cut → Option Span → ℕ
 count row None = length row
 count row (Some _) = suc (length row)
@@ -124,10 +131,12 @@ pub record After (on : Opening) (es : List Event) (s : State) : Type 0 where
   pub end_to_end : Lie 0 row last s.place (size on)
   pub rule : CutRule on.marks on.bound s.place (marks_of row)
   -- no other pieces, as many, keep the rule
-  pub no_other : (row' : List Cut) (last' : Option Span) (rest' : ℕ) → Lie 0 row' last' rest' (size on) → CutRule on.marks on.bound rest' (marks_of row')
-      → count row' last' ≡ count row last → (row' ≡ row) × (last' ≡ last) × (rest' ≡ s.place)
+  pub no_other : (row' : List Cut) (last' : Option Span) (rest' : ℕ) → Lie 0 row' last' rest' (size on)
+      → CutRule on.marks on.bound rest' (marks_of row') → count row' last' ≡ count row last
+      → (row' ≡ row) × (last' ≡ last) × (rest' ≡ s.place)
   -- what one more call answers
-  pub one_more : (e : Event) (t : State) → Step on s e t → Answers on.bytes (suc (length whole)) (count row last) s.place still e
+  pub one_more : (e : Event) (t : State) → Step on s e t
+      → Answers on.bytes (suc (length whole)) (count row last) s.place still e
 
 -- the law of a cutter: what holds after every list of calls since it was opened
 abbrev pub RunsLaw : Opening → Type 0

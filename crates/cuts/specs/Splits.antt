@@ -1,5 +1,6 @@
 -- What a text is split into at marks, from the front and from the end. Assumes nothing.
-use Rattle.std.specs.Prelude.{◌≡◌, ℕ, ◌+◌, ◌-◌, ◌<◌, ◌≤◌, cond, ◌&&◌, IsTrue, List, [], ◌∷◌, map, reverse, ℤ, Option, nat_le, nat_lt}
+use Rattle.std.specs.Prelude.{◌≡◌, ℕ, ◌+◌, ◌-◌, ◌<◌, ◌≤◌, if◌then◌else◌, ◌&&◌, IsTrue, nat_le, nat_lt}
+use Rattle.std.specs.Prelude.{List, [], ◌∷◌, map, reverse, ℤ, Option}
 use Rattle.std.specs.Option.{option_map}
 use Rattle.searchers.specs.Marks.{Marks, Span}
 use Rattle.cuts.specs.Cuts.{all_marks, cuts, between, fewer, Opening, size, State, pieces_left, next_of}
@@ -21,7 +22,8 @@ mirror marks len a e = nat_le a len && (nat_le e len && marks (len - e) (len - a
 abbrev pub mirrored_spans : ℕ → List Span → List Span
 mirrored_spans len ms = reverse (map (flip len) ms)
 
--- the pieces of a text of `len` bytes, cut at marks from the end while fewer cuts are made than the bound, in the order of the text
+-- the pieces of a text of `len` bytes, cut at marks from the end while fewer cuts are made than the bound, in the
+-- order of the text
 abbrev pub rpieces_of : Marks → ℕ → ℤ → List Span
 rpieces_of marks len bound = mirrored_spans len (pieces_of (mirror marks len) len bound)
 
@@ -44,14 +46,15 @@ FreeBack cut m = (c : Span) → In c cut → m.1 < c.1 → Overlap c m → ⊥
 -- how many cuts end after `e`
 abbrev pub count_after : List Span → ℕ → ℕ
 count_after [] e = 0
-count_after (c ∷ cs) e = cond (nat_lt e c.1) 1 0 + count_after cs e
+count_after (c ∷ cs) e = (if nat_lt e c.1 then 1 else 0) + count_after cs e
 
 -- Of the marks that end after `rest`, exactly those are cut that no later cut overlaps and whose later cuts
 -- are fewer than the bound.
 pub record CutRuleBack (marks : Marks) (bound : ℤ) (rest : ℕ) (cut : List Span) : Type 0 where
   pub marked : (m : Span) → In m cut → IsTrue (marks m.0 m.1) × (rest < m.1)
   pub only : (m : Span) → In m cut → FreeBack cut m × IsTrue (fewer (count_after cut m.1) bound)
-  pub every : (m : Span) → IsTrue (marks m.0 m.1) → rest < m.1 → FreeBack cut m → IsTrue (fewer (count_after cut m.1) bound) → In m cut
+  pub every : (m : Span) → IsTrue (marks m.0 m.1) → rest < m.1
+      → FreeBack cut m → IsTrue (fewer (count_after cut m.1) bound) → In m cut
 
 -- cuts that stand one after another from `p` to `len`, none of them empty
 abbrev pub Apart : ℕ → List Span → ℕ → Type 0
