@@ -1,5 +1,6 @@
 -- What a cutter from the end gives next, by what a searcher answers from the end.
-use Rattle.std.proofs.Common.{◌≡◌, ℕ, suc, ◌-◌, ◌≤◌, Bool, true, false, List, [], ◌∷◌, map, length, Some, None, Option, ap, ◌∙◌, arith}
+use Rattle.std.proofs.Common.{◌≡◌, ℕ, suc, ◌-◌, ◌≤◌, Bool, true, false, [], map, length, Some, None, Option}
+use Rattle.std.proofs.Common.{ap, ◌∙◌, arith}
 use lib.ListN.{length-map}
 use Rattle.std.specs.Iterator.{YieldsFirst}
 use Rattle.std.specs.Option.{option_map}
@@ -14,24 +15,34 @@ use Rattle.cuts.proofs.Sizes.{pieces_few}
 use Rattle.cuts.proofs.Yielding.{next_yields}
 
 module _ (on : Opening) (law : Lawful on.marks (size on)) where
+  -- the marks are lawful from the end too
   end-law : Lawful (mirrored_opening on).marks (size (mirrored_opening on))
   end-law = mirror-lawful on.marks (size on) law
 
+  -- it gives at most one piece more than there are bytes
   pub back_few : size on ≤ most_bytes → (s : State) → length (left_back on s) ≤ suc most_bytes
-  back_few few s = omega (arith, length-map (pieces_left (mirrored_opening on) s) (flip (size on)), pieces_few (mirrored_opening on) end-law few s)
+  back_few few s =
+      omega (
+        arith,
+        length-map (pieces_left (mirrored_opening on) s) (flip (size on)),
+        pieces_few (mirrored_opening on) end-law few s,
+      )
 
   -- the next piece is the first of those that are left
   pub back_yields : (place made : ℕ) (spent : Bool)
-      → YieldsFirst (left_back on) (at place made spent) (next_back on (at place made spent)).0 (next_back on (at place made spent)).1
-  back_yields place made spent = mirrored_spans (next_of (mirrored_opening on) s).0 (next_yields (mirrored_opening on) end-law place made spent)
+      → YieldsFirst (left_back on) (at place made spent)
+      (next_back on (at place made spent)).0 (next_back on (at place made spent)).1
+  back_yields place made spent =
+      seen (next_of (mirrored_opening on) s).0 (next_yields (mirrored_opening on) end-law place made spent)
     where
       s : State
       s = at place made spent
 
-      mirrored_spans : (r : Option Span) → YieldsFirst (pieces_left (mirrored_opening on)) s r (next_of (mirrored_opening on) s).1
+      seen : (r : Option Span)
+          → YieldsFirst (pieces_left (mirrored_opening on)) s r (next_of (mirrored_opening on) s).1
           → YieldsFirst (left_back on) s (option_map (flip (size on)) r) (next_of (mirrored_opening on) s).1
-      mirrored_spans None h = (ap (map (flip (size on))) h.0, ap (map (flip (size on))) h.1)
-      mirrored_spans (Some p) h = ap (map (flip (size on))) h
+      seen None h = (ap (map (flip (size on))) h.0, ap (map (flip (size on))) h.1)
+      seen (Some p) h = ap (map (flip (size on))) h
 
   module _ (place made : ℕ) (spent : Bool) (unspent : spent ≡ false) (within : place ≤ size on) where
     -- what comes where so much comes seen from the end
@@ -49,16 +60,27 @@ module _ (on : Opening) (law : Lawful on.marks (size on)) where
         → next_back on (at (size on - place) made spent) ≡ (Some (0, place), at (size on) made true)
     back_rest none =
         let all : size on ≡ size on - 0 = omega arith in
-        seen_next 0 _ (omega arith) (next_rest (mirrored_opening on) end-law made (size on - place) none ∙ (λ i. (Some (size on - place, all i), at (size on) made true)))
+        seen_next 0 _ (omega arith)
+        (next_rest (mirrored_opening on) end-law made (size on - place) none
+        ∙ (λ i. (Some (size on - place, all i), at (size on) made true)))
 
-    pub back_used : (fewer made on.bound ≡ false) → next_back on (at (size on - place) made spent) ≡ (Some (0, place), at (size on) made true)
+    -- with the bound used up it gives what is left, as the last piece
+    pub back_used : (fewer made on.bound ≡ false)
+        → next_back on (at (size on - place) made spent) ≡ (Some (0, place), at (size on) made true)
     back_used used = back_rest (used_up (mirrored_opening on) end-law made (size on - place) used)
 
-    pub back_none : NoneBefore on.marks place → next_back on (at (size on - place) made spent) ≡ (Some (0, place), at (size on) made true)
-    back_none none = back_rest (none_found (mirrored_opening on) end-law made (size on - place) (mirror-none on.marks (size on) law place within none))
+    -- and so it does where no mark ends before its place
+    pub back_none : NoneBefore on.marks place
+        → next_back on (at (size on - place) made spent) ≡ (Some (0, place), at (size on) made true)
+    back_none none =
+        back_rest
+        (none_found (mirrored_opening on) end-law made (size on - place)
+        (mirror-none on.marks (size on) law place within none))
 
+    -- else it gives what follows the last mark before its place, and cuts that mark
     pub back_cut : (a e : ℕ) → Few on.bound made → Greatest on.marks place a e
         → next_back on (at (size on - place) made spent) ≡ (Some (e, place), at (size on - a) (suc made) false)
     back_cut a e few g =
         let least = mirror-least on.marks (size on) law place a e within g in
-        seen_next e _ (law.within a e g.is) (next_cut (mirrored_opening on) end-law made (size on - place) (size on - e) (size on - a) few least)
+        seen_next e _ (law.within a e g.is)
+        (next_cut (mirrored_opening on) end-law made (size on - place) (size on - e) (size on - a) few least)

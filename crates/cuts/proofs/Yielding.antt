@@ -16,14 +16,19 @@ seen_yields view left s t (Some x) n e h = subst (λ m. YieldsFirst left s m.0 m
 
 module _ (on : Opening) (law : Lawful on.marks (size on)) (place made : ℕ) where
   -- what next gives is the first of the pieces that are left
-  pub next_yields : (spent : Bool) → YieldsFirst (pieces_left on) (at place made spent) (next_of on (at place made spent)).0 (next_of on (at place made spent)).1
+  pub next_yields : (spent : Bool)
+      → YieldsFirst (pieces_left on) (at place made spent) (next_of on (at place made spent)).0
+      (next_of on (at place made spent)).1
   next_yields true = (refl, refl)
   next_yields false =
       let n = nexted on law place made in
       subst (λ m. YieldsFirst (pieces_left on) (at place made false) m.0 m.1) (sym n.is) n.pieces
 
 -- a step gives it too, read from what is given by `view`
-pub step_yields : {A : Type 0} (view : A → Span) (on : Opening) → Lawful on.marks (size on) → (place made : ℕ) (spent : Bool) (r : Option A) (t : State)
-    → Step on (at place made spent) (next (option_map view r)) t → YieldsFirstBy view (pieces_left on) (at place made spent) r t
+pub step_yields : {A : Type 0} (view : A → Span) (on : Opening) → Lawful on.marks (size on)
+    → (place made : ℕ) (spent : Bool) (r : Option A) (t : State)
+    → Step on (at place made spent) (next (option_map view r)) t
+    → YieldsFirstBy view (pieces_left on) (at place made spent) r t
 step_yields view on law place made spent r t h =
-    seen_yields view (pieces_left on) _ t r (next_of on (at place made spent)) (λ i. (h.0 i, h.1 i)) (next_yields on law place made spent)
+    seen_yields view (pieces_left on) _ t r (next_of on (at place made spent)) (λ i. (h.0 i, h.1 i))
+    (next_yields on law place made spent)

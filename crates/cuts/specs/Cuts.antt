@@ -1,6 +1,7 @@
 -- What a cutter's calls give, as functions that compute. Assumes nothing.
 use Rattle.std.specs.Prelude.{ℕ, zero, suc, ◌+◌, ◌-◌, Bool, true, false, if◌then◌else◌, ◌&&◌, nat_le, nat_lt}
-use Rattle.std.specs.Prelude.{List, [], ◌∷◌, ◌++◌, length, take, drop, ℤ, pos, negsuc, Some, None, Ok, Err, Option, Result}
+use Rattle.std.specs.Prelude.{List, [], ◌∷◌, ◌++◌, length, take, drop, ℤ, pos, negsuc, Some, None, Ok, Err, Option}
+use Rattle.std.specs.Prelude.{Result}
 use Rattle.anystr.specs.declared.refusal.Refusal.TheVariants.{Spent, TooFew}
 use Rattle.anystr.specs.Refusals.{code}
 use Rattle.searchers.specs.Marks.{Marks, Span}

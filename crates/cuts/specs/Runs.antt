@@ -75,7 +75,8 @@ abbrev pub Step : Opening → State → Event → State → Type 0
 Step on s (next r) t = (r ≡ (next_of on s).0) × (t ≡ (next_of on s).1)
 Step on s (skip n r) t = (r ≡ skip_of on n s) × (t ≡ unless_refused r (nexts on n s) s)
 Step on s (rest r) t = (r ≡ (s.place, size on)) × (t ≡ s)
-Step on s (pour to tray r tray') t = IsFilled (pour_of on to s) tray tray' r × (t ≡ unless_refused r (poured_out on s) s)
+Step on s (pour to tray r tray') t =
+    IsFilled (pour_of on to s) tray tray' r × (t ≡ unless_refused r (poured_out on s) s)
 
 -- a list of calls, the latest first, that leads from one state to another
 pub data Run (on : Opening) : State → List Event → State → Type 0 where

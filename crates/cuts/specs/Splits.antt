@@ -31,7 +31,8 @@ rpieces_of marks len bound = mirrored_spans len (pieces_of (mirror marks len) le
 abbrev pub mirrored_opening : Opening → Opening
 mirrored_opening on = record { marks = mirror on.marks (size on); bytes = on.bytes; bound = on.bound }
 
--- the pieces that are left to a cutter from the end, whose state is seen from the end, in the order in which it gives them
+-- the pieces that are left to a cutter from the end, whose state is seen from the end, in the order in which it gives
+-- them
 abbrev pub left_back : Opening → State → List Span
 left_back on s = map (flip (size on)) (pieces_left (mirrored_opening on) s)
 
