@@ -54,9 +54,9 @@ fn add_element(out: &mut Vec<u8>, element: &[u8]) -> Result<(), AllocError>
 /// Refused only where memory runs out, and never where `out` has room for what is appended. After
 /// a refusal `out` holds what it held.
 pub fn add_text<S: AnyStr>(out: &mut Vec<u8>, text: &S) -> Result<(), AllocError>
-    ensures ok { OnOk result (out.new.items ≡ out.old.items ++ shown (S.AnyStr.elements text.now)) }
+    ensures ok { OnOk result (out.new.items ≡ out.old.items ++ shown (S.elements text.now)) }
     ensures err { OnErr result (VecUnchanged out.old out.new) }
-    ensures room { vec_len out.old + length (shown (S.AnyStr.elements text.now))
+    ensures room { vec_len out.old + length (shown (S.elements text.now))
         ≤ vec_capacity out.old → IsOk result }
 
     // so room that is made for several texts is still there for the later ones
