@@ -8,7 +8,7 @@ use Rattle.searchers.specs.declared.searcher.Searcher
 use Rattle.cuts.specs.Cuts.{Opening, size, State, at}
 use Rattle.cuts.specs.Runs.{Step, next}
 use Rattle.cuts.proofs.Left.{to_pour, gave}
-use Rattle.cuts.proofs.Sizes.{poured-fits}
+use Rattle.cuts.proofs.Sizes.{poured_fits}
 use Rattle.cutters.specs.Calls.{opening, state, SameOpening}
 use Rattle.cutters.specs.declared.cutter.Cutter.{Cutter}
 use Rattle.cutters.proofs.Same.{step_on}
@@ -26,7 +26,7 @@ module _ (on : Opening) (law : Lawful on.marks (size on)) (to : List ℕ) where
     where
       by : (b : Bool) → length (to_pour on to (at s.place s.made b)) < 2 ^ 64
       by true = omega arith
-      by false = poured-fits on law to s.made s.place few short
+      by false = poured_fits on law to s.made s.place few short
 
 module _ {S F C : Type 0} {s : AnyStr.Ghosts S C} {f : Searcher.Ghosts F S C} (k here after : Cutter S F C s f) (p : Span) where
   -- the same of a cutter that was opened as `k`, and whose next gave the piece

@@ -11,7 +11,8 @@ use Rattle.sheets.specs.Shown.{shown, shown_element}
 
 pub shown-append : (xs ys : List (List ℕ)) → shown (xs ++ ys) ≡ shown xs ++ shown ys
 shown-append [] ys = refl
-shown-append (x ∷ xs) ys = ap (λ r. shown_element x ++ r) (shown-append xs ys) ∙ sym (append_assoc (shown_element x) (shown xs) (shown ys))
+shown-append (x ∷ xs) ys =
+    ap (λ r. shown_element x ++ r) (shown-append xs ys) ∙ sym (append_assoc (shown_element x) (shown xs) (shown ys))
 
 -- no element begins at the end
 pub none-at_end : (es : List (List ℕ)) → Filled es → element_at es (length (concat es)) ≡ None
@@ -21,7 +22,8 @@ none-at_end (e ∷ es) f =
     let at : ℕ = length (e ++ concat es) in
     let p : at ≡ length e + length (concat es) = length-append e (concat es) in
     let back : at - length e ≡ length (concat es) = omega arith in
-    cond-false _ _ _ (ne_eqb at 0 (λ z. omega arith)) ∙ (cond-true _ _ _ (le-leb (length e) at (omega arith)) ∙ (ap (element_at es) back ∙ none-at_end es f.1))
+    cond-false _ _ _ (ne_eqb at 0 (λ z. omega arith))
+    ∙ (cond-true _ _ _ (le-leb (length e) at (omega arith)) ∙ (ap (element_at es) back ∙ none-at_end es f.1))
 
 -- the element of index k stands at its offset, and the next begins behind it
 pub record Stands (es : List (List ℕ)) (k : ℕ) (e : List ℕ) : Type 0 where
@@ -39,24 +41,34 @@ stands es k f h =
     let rest = concat (drop (k + 1) es) in
     let more : take (k + 1) es ≡ take k es ++ e ∷ [] = take_more es k [] h in
     let whole : concat es ≡ front ++ (e ++ rest) =
-    ap concat (sym (take-append-drop k es)) ∙ (concat-append (take k es) (drop k es) ∙ ap (λ r. front ++ concat r) (drop_more es k [] h)) in
-    let next : offset es (k + 1) ≡ offset es k + length e = ap (λ xs. length (concat xs)) more ∙ (ap length (concat-append (take k es) (e ∷ [])) ∙ (length-append front (e ++ []) ∙ ap (λ r. length front + length r) (append-nil e))) in
+    ap concat (sym (take-append-drop k es))
+    ∙ (concat-append (take k es) (drop k es) ∙ ap (λ r. front ++ concat r) (drop_more es k [] h)) in
+    let next : offset es (k + 1) ≡ offset es k + length e =
+    ap (λ xs. length (concat xs)) more
+    ∙ (ap length (concat-append (take k es) (e ∷ []))
+    ∙ (length-append front (e ++ []) ∙ ap (λ r. length front + length r) (append-nil e))) in
     record {
       within = h;
       some = filled_at es k f h;
       next = next;
       fits = omega (arith, ap length whole, length-append front (e ++ rest), length-append e rest);
-      bytes = ap (λ bs. take (length e) (drop (length front) bs)) whole ∙ (ap (take (length e)) (drop_at front (e ++ rest) (length front) refl) ∙ take_at e rest (length e) refl);
+      bytes =
+          ap (λ bs. take (length e) (drop (length front) bs)) whole
+          ∙ (ap (take (length e)) (drop_at front (e ++ rest) (length front) refl) ∙ take_at e rest (length e) refl);
       front = more;
     }
 
 -- the element that begins where the walk stands
-pub element_stands : (es : List (List ℕ)) (k start : ℕ) (e : List ℕ) → Filled es → offset es k ≡ start → Some e ≡ element_at es start → Stands es k e
+pub element_stands : (es : List (List ℕ)) (k start : ℕ) (e : List ℕ) → Filled es → offset es k ≡ start
+    → Some e ≡ element_at es start → Stands es k e
 element_stands es k start e f o is =
     let at : element_at es (offset es k) ≡ Some e = ap (element_at es) o ∙ sym is in
     ⊎_elim
-    (λ lt. let same : get_or es k [] ≡ e = let b = begins es k f lt in cc in subst (Stands es k) same (stands es k f lt))
-    (λ ge. let whole = ap (λ xs. element_at es (length (concat xs))) (take_all k es ge) in let none = none-at_end es f in let z : ◌≡◌ {A = ℕ} 0 1 = cc in absurd (omega arith))
+    (λ lt.
+    let same : get_or es k [] ≡ e = let b = begins es k f lt in cc in subst (Stands es k) same (stands es k f lt))
+    (λ ge.
+    let whole = ap (λ xs. element_at es (length (concat xs))) (take_all k es ge) in
+    let none = none-at_end es f in let z : ◌≡◌ {A = ℕ} 0 1 = cc in absurd (omega arith))
     (cases_lt k (length es))
 
 -- where none begins the walk is over
@@ -105,7 +117,10 @@ pub shown-all : (es : List (List ℕ)) (k start : ℕ) (before out : List ℕ) �
 shown-all es k start before out f o is was = was ∙ ap (λ xs. before ++ shown xs) (walk_over es k start f o is)
 
 -- the stretch that the code cuts out is the element
-pub cut-is : (es : List (List ℕ)) (k : ℕ) (e bytes : List ℕ) (start len : ℕ) → Stands es k e → bytes ≡ concat es → offset es k ≡ start → len ≡ length e → take ((start + len) - start) (drop start bytes) ≡ e
+pub cut-is : (es : List (List ℕ)) (k : ℕ) (e bytes : List ℕ) (start len : ℕ) → Stands es k e → bytes ≡ concat es
+    → offset es k ≡ start → len ≡ length e → take ((start + len) - start) (drop start bytes) ≡ e
 cut-is es k e bytes start len s b o l =
     let n : (start + len) - start ≡ length e = omega arith in
-    ap (λ m. take m (drop start bytes)) n ∙ (ap (λ bs. take (length e) (drop start bs)) b ∙ (ap (λ m. take (length e) (drop m (concat es))) (sym o) ∙ s.bytes))
+    ap (λ m. take m (drop start bytes)) n
+    ∙ (ap (λ bs. take (length e) (drop start bs)) b
+    ∙ (ap (λ m. take (length e) (drop m (concat es))) (sym o) ∙ s.bytes))

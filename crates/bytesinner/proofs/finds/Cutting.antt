@@ -6,10 +6,10 @@ use Rattle.searchers.specs.Marks.{Span, CutTimes}
 use Rattle.searchers.specs.substring.Occurrences.{occurrence, occurrence-lawful}
 use Rattle.cuts.specs.Cuts.{cut_from}
 use Rattle.cuts.specs.Runs.{CutRule}
-use Rattle.cuts.proofs.Found.{cut-found, none_found}
+use Rattle.cuts.proofs.Found.{cut_found, none_found}
 use Rattle.cuts.proofs.Greedy.{greedy_rule}
 use Rattle.cuts.proofs.Listed.{greedy_cuts}
-use Rattle.cuts.proofs.Reach.{to_the_end, length-marks}
+use Rattle.cuts.proofs.Reach.{to_the_end, length-marks_of}
 use Rattle.bytesinner.specs.Openings.{unbounded, opening_at}
 use Rattle.bytesinner.specs.finds.Counts.{times, count_of, CutUp, Number}
 use Rattle.anystr.specs.Places.{part}
@@ -18,7 +18,7 @@ use Rattle.bytesinner.proofs.finds.Parts.{length_part}
 -- as many cuts are still to be made from a place on as marks are cut from there
 cuts-are : (n bs : List ℕ) (made place k : ℕ) → CutTimes (occurrence n bs) place k → length (cut_from (opening_at bs n unbounded) made place) ≡ k
 cuts-are n bs made place zero none = ap length (none_found (opening_at bs n unbounded) (occurrence-lawful n bs) made place none)
-cuts-are n bs made place (suc k) (s, e, least, rest) = ap length (cut-found (opening_at bs n unbounded) (occurrence-lawful n bs) made place s e refl least) ∙ ap suc (cuts-are n bs (suc made) e k rest)
+cuts-are n bs made place (suc k) (s, e, least, rest) = ap length (cut_found (opening_at bs n unbounded) (occurrence-lawful n bs) made place s e refl least) ∙ ap suc (cuts-are n bs (suc made) e k rest)
 
 times-are : (n bs : List ℕ) (k : ℕ) → 0 < length n → CutTimes (occurrence n bs) 0 k → k ≡ times n bs
 times-are [] bs k some cut = absurd (omega arith)
@@ -34,7 +34,7 @@ cut_up n bs =
       tail = end.1;
       lie = end.3;
       rule = subst (λ (cut : List Span). CutRule (occurrence n bs) unbounded (length bs) cut) end.2 rule;
-      number = sym (ap length end.2 ∙ length-marks end.0);
+      number = sym (ap length end.2 ∙ length-marks_of end.0);
     }
 
 pub count-empty : (bs n : List ℕ) (a b : ℕ) → a ≤ b → length n ≡ 0 → length (part bs (a, b)) + 1 ≡ count_of bs n a b

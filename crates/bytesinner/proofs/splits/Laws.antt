@@ -10,7 +10,7 @@ use Rattle.searchers.specs.Marks.{Span}
 use Rattle.searchers.specs.substring.Occurrences.{occurrence, occurrence-is, occurrence-lawful}
 use Rattle.cuts.specs.Runs.{In}
 use Rattle.cuts.specs.Splits.{SplitBy}
-use Rattle.cuts.proofs.Splits.{split-rule, rsplit-rule, split-restores, split-on}
+use Rattle.cuts.proofs.Splits.{split-rule, rsplit-rule, split_restores, split_on}
 use Rattle.anystr.proofs.Boundaries.{end_on}
 use Rattle.bytesinner.specs.Written.{OfWritten, Cuttable}
 use Rattle.bytesinner.specs.splits.Separated.{unless_empty, split_of, rsplit_of, SplitFront, SplitBack, Restore}
@@ -51,13 +51,13 @@ module _ (Rule : List Span → Type 0) (es : List (List ℕ)) (sep : List ℕ) (
     (ps : List Span) (by : SplitBy Rule (length (concat es)) ps) where
   cuttable : Cuttable es ps
   cuttable p h =
-      let on = split-on (Boundary es) Rule (length (concat es)) ps (0, refl) (end_on es) (λ cut rule m k. on-boundaries es sep whole m (marked cut rule m k)) by p h in
+      let on = split_on (Boundary es) Rule (length (concat es)) ps (0, refl) (end_on es) (λ cut rule m k. on-boundaries es sep whole m (marked cut rule m k)) by p h in
       record { order = on.0; start = on.1; end = on.2 }
 
   kept : (list list' : List Place) (r : Result ℕ Refusal) → Lists (unless_empty sep ps) list list' r → Kept (SplitBy Rule (length (concat es))) es sep list' r
   kept list list' r h = record {
     rule = split_written (SplitBy Rule (length (concat es))) sep ps by list list' r h;
-    restores = split_written (Restore (concat es) sep) sep ps (split-restores Rule sep (concat es) ps (λ cut rule m k. reads (concat es) sep m (marked cut rule m k)) by) list list' r h;
+    restores = split_written (Restore (concat es) sep) sep ps (split_restores Rule sep (concat es) ps (λ cut rule m k. reads (concat es) sep m (marked cut rule m k)) by) list list' r h;
     cut = split_written (Cuttable es) sep ps cuttable list list' r h;
   }
 

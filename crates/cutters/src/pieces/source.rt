@@ -3,7 +3,7 @@ ghost use Rattle.std.specs.Prelude.{List, Option, refl};
 ghost use Rattle.std.specs.Iterator.{YieldsFirstBy};
 ghost use Rattle.std.specs.Iterator.Adapters.{skip_source};
 ghost use Rattle.searchers.specs.Marks.{Span};
-ghost use Rattle.cuts.proofs.Sizes.{pieces-few};
+ghost use Rattle.cuts.proofs.Sizes.{pieces_few};
 ghost use Rattle.cutters.specs.declared.piece.Piece.{Piece};
 ghost use Rattle.cutters.specs.Calls.{opening, state, span, left_pieces};
 ghost use Rattle.cutters.specs.pieces.Lefts.{cutter_of};
@@ -40,7 +40,7 @@ impl<S: AnyStr, F: Searcher<S> + Drop> Pieces for PiecesLeft<S, F> {
 
     ghost gives = { λ s r t h. next-yields (cutter_of s) (cutter_of t) r (F.Searcher.lawful s.cutter.searcher s.cutter.text) h };
 
-    ghost counts = { λ s. record { all = refl; few = pieces-few (opening s.cutter) (F.Searcher.lawful s.cutter.searcher s.cutter.text) (S.AnyStr.few s.cutter.text) (state s.cutter) } };
+    ghost counts = { λ s. record { all = refl; few = pieces_few (opening s.cutter) (F.Searcher.lawful s.cutter.searcher s.cutter.text) (S.AnyStr.few s.cutter.text) (state s.cutter) } };
 }
 
 // Without its first pieces, a source is one too.
