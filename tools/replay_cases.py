@@ -76,7 +76,7 @@ def laid(pieces, gap):
 def words_laid(t, pieces):
     places, at = [], 0
     for p in pieces:
-        while t[at:at + 1] and t[at:at + 1] in [WHITE[i:i + 1] for i in range(6)]:
+        while at < len(t) and t[at] in WHITE:
             at += 1
         places.append((at, at + len(p)))
         at += len(p)
@@ -88,9 +88,9 @@ def rwords_laid(t, pieces):
     for p in reversed(pieces):
         while at and t[at - 1] in WHITE:
             at -= 1
-        places.insert(0, (at - len(p), at))
+        places.append((at - len(p), at))
         at -= len(p)
-    return places
+    return places[::-1]
 
 
 CASES = []
@@ -382,6 +382,7 @@ def write():
         split(kind, b'1,2,3', b',', -1, 9)
         split(kind, b'1,2,3', b',', 1, 9)
         split(kind, b'1,2,,3,', b',', -1, 9)
+        split(kind, b'1,,2', b',', -1, 9)
         split(kind, b'1<>2<>3', b'<>', -1, 9)
         split(kind, b'1 2 3', None, -1, 9)
         split(kind, b'1 2 3', None, 1, 9)

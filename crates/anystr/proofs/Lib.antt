@@ -2,3 +2,4 @@ pub mod Begins
 pub mod Boundaries
 pub mod Mapped
 pub mod Parts
+pub mod Singles

@@ -1,5 +1,6 @@
 -- A text's meaning: the list of its elements' encodings. Assumes nothing.
-use Rattle.std.specs.Prelude.{◌≡◌, ℕ, ◌-◌, ◌<◌, ◌≤◌, Bool, true, cond, if◌then◌else◌, ◌&&◌, List, [], ◌∷◌, length, take, drop, Some, None, Option, ◌==◌, nat_le}
+use Rattle.std.specs.Prelude.{◌≡◌, ℕ, ◌+◌, ◌-◌, ◌<◌, ◌≤◌, Bool, true, if◌then◌else◌, ◌&&◌, ◌==◌, nat_le}
+use Rattle.std.specs.Prelude.{List, [], ◌∷◌, length, take, drop, Some, None, Option}
 use Rattle.std.specs.List.{concat}
 
 -- the bytes before the element of index k
@@ -33,11 +34,16 @@ pub record Part (es ps : List (List ℕ)) (a b : ℕ) : Type 0 where
 -- the element that begins at the offset p, if one does
 abbrev pub element_at : List (List ℕ) → ℕ → Option (List ℕ)
 element_at [] p = None
-element_at (e ∷ es) p = cond (p == 0) (Some e) (cond (nat_le (length e) p) (element_at es (p - length e)) None)
+element_at (e ∷ es) p =
+    if p == 0 then Some e else (if nat_le (length e) p then element_at es (p - length e) else None)
 
 -- the bytes n stand in the bytes bs from p on
 abbrev pub Occurs : List ℕ → List ℕ → ℕ → Type 0
 Occurs bs n p = take (length n) (drop p bs) ≡ n
+
+-- where the bytes n, if there are any, stand in the text of the elements es, they begin and end at boundaries
+abbrev pub OccursOnBoundaries : List (List ℕ) → List ℕ → Type 0
+OccursOnBoundaries es n = (p : ℕ) → 0 < length n → Occurs (concat es) n p → Boundary es p × Boundary es (p + length n)
 
 -- no encoding is empty
 abbrev pub Filled : List (List ℕ) → Type 0

@@ -1,4 +1,4 @@
--- The limits of the port.
+-- The limits of the port. Assumes nothing.
 use Rattle.std.specs.Prelude.{ℕ}
 
 -- the most bytes of a text; the code's MAX_BYTES

@@ -8,6 +8,7 @@ use Rattle.anystr.specs.Refusals.{code, coded}
 abbrev pub stretch : Place → ℕ × ℕ
 stretch p = (p.start, p.end)
 
+-- the same of each place of a list
 abbrev pub stretches : List Place → List (ℕ × ℕ)
 stretches ps = map stretch ps
 
@@ -30,5 +31,6 @@ join_parts sep bytes ps = with_between sep (map (part bytes) ps)
 -- few entries is refused with 7 and the number of places. Refused, every entry is as it was.
 abbrev pub Lists : Result (List (ℕ × ℕ)) (ℕ × ℕ) → (list list' : List Place) → Result ℕ Refusal → Type 0
 Lists (Err c) list list' r = (coded r ≡ Err c) × (list' ≡ list)
-Lists (Ok ps) list list' (Ok n) = (n ≡ length ps) × (length ps ≤ length list) × (stretches (take n list') ≡ ps) × (drop n list' ≡ drop n list)
+Lists (Ok ps) list list' (Ok n) =
+    (n ≡ length ps) × (length ps ≤ length list) × (stretches (take n list') ≡ ps) × (drop n list' ≡ drop n list)
 Lists (Ok ps) list list' (Err e) = (length list < length ps) × (code e ≡ (7, length ps)) × (list' ≡ list)

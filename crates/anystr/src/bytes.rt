@@ -1,14 +1,14 @@
 // The kind of text whose elements are bytes.
-ghost use Rattle.std.specs.Prelude.{◌≡◌, ◌<◌, ◌≤◌, [], ◌∷◌, length, MatchResult};
+ghost use Rattle.std.specs.Prelude.{◌≡◌, ◌<◌, ◌≤◌, [], ◌∷◌, length, IfOk};
 ghost use Rattle.anystr.specs.Limits.{most_bytes};
-ghost use Rattle.anystr.specs.OfBytes.{singles, few as few_bytes, filled as filled_bytes, whole as whole_bytes};
-ghost use Rattle.anystr.specs.Refusals.{code, PassesIf};
+ghost use Rattle.anystr.specs.OfBytes.{singles};
+ghost use Rattle.anystr.specs.Refusals.{PassesIf};
 
 use super::anystr::{AnyStr, MAX_BYTES};
 use super::refusal::Refusal;
 use std::ops::Range;
 
-// A text of bytes: every offset is a boundary.
+/// A text whose elements are bytes, so that every offset in it is a boundary.
 #[derive(Clone, Copy)]
 pub struct Bytes<'a> {
     bytes: &'a [u8],
@@ -18,9 +18,10 @@ pub struct Bytes<'a> {
 impl<'a> TryFrom<&'a [u8]> for Bytes<'a> {
     type Error = Refusal;
 
-    ghost try_from_gives = { λ bytes r. MatchResult r (λ text. (length bytes.now ≤ most_bytes) × (singles text.bytes.now ≡ singles bytes.now)) (λ e. (length bytes.now ≤ most_bytes → ⊥) × (code e ≡ (6, 0))) };
+    ghost try_from_gives = { λ bytes r. PassesIf (length bytes.now ≤ most_bytes) (6, 0) r
+        × IfOk r (λ text. ⟦<Bytes<'a> as AnyStr>⟧.elements text ≡ singles bytes.now) };
 
-    // The text of the bytes; refused where they are too many.
+    /// The text of the bytes; refused (6) where they are more than `MAX_BYTES`.
     fn try_from(bytes: &'a [u8]) -> Result<Bytes<'a>, Refusal> {
         if bytes.len() > MAX_BYTES {
             Err(Refusal::TooLong)
@@ -31,14 +32,14 @@ impl<'a> TryFrom<&'a [u8]> for Bytes<'a> {
 }
 
 impl<'a> Bytes<'a> {
-    // Whether the bytes can be a text.
+    /// Whether the bytes can be a text; refused (6) where they are more than `MAX_BYTES`.
     pub fn check(bytes: &[u8]) -> Result<(), Refusal>
         ensures { PassesIf (length bytes.now ≤ most_bytes) (6, 0) result }
     {
         Bytes::try_from(bytes).map(|_| ())
     }
 
-    // The text of the bytes; the empty text where `check` refuses.
+    /// The text of the bytes; the empty text where `check` refuses.
     pub fn new(bytes: &'a [u8]) -> Bytes<'a>
         ensures given { length bytes.now ≤ most_bytes
             → ⟦<Bytes<'a> as AnyStr>⟧.elements result ≡ singles bytes.now }
@@ -50,17 +51,21 @@ impl<'a> Bytes<'a> {
 }
 
 impl<'a> AnyStr for Bytes<'a> {
+    ghost use Rattle.anystr.specs.Bytes.{byte_list};
+    ghost use Rattle.anystr.specs.OfBytes.{filled as filled_bytes, few as few_bytes};
+    ghost use Rattle.anystr.specs.OfBytes.{whole as whole_bytes};
+
     type Char = u8;
 
-    ghost elements = { λ s. singles s.bytes.now };
+    ghost elements = { λ s. singles (byte_list s) };
 
     ghost encoded = { λ b. b ∷ [] };
 
-    ghost filled = { λ s. filled_bytes s.bytes.now };
+    ghost filled = { λ s. filled_bytes (byte_list s) };
 
-    ghost few = { λ s. few_bytes s.bytes.now s.few };
+    ghost few = { λ s. few_bytes (byte_list s) s.few };
 
-    ghost whole = { λ s t. whole_bytes s.bytes.now t.bytes.now };
+    ghost whole = { λ s t. whole_bytes (byte_list s) (byte_list t) };
 
     fn as_bytes(&self) -> &[u8] {
         self.bytes

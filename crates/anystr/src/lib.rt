@@ -1,5 +1,4 @@
-// Texts as the byte methods see them: views of bytes that somebody else owns, by their elements. Beside them
-// stands what the methods' calls share: refusals, places, and arguments that may be left out.
+// Texts as the byte methods see them, and what the methods' calls share: refusals, places, indices.
 #![tactic(auto)]
 
 pub mod anystr;

@@ -2,38 +2,38 @@
 ghost use Rattle.std.specs.Prelude.{◌≡◌};
 ghost use Rattle.anystr.specs.Refusals.{code};
 
-// Why a call was refused. The number that some carry is told by `code`.
+/// Why a call was refused. `code` gives each its number.
 #[derive(Clone, Copy, PartialEq, Eq, Debug)]
 pub enum Refusal {
-    // an empty separator or needle
+    /// an empty separator or needle
     EmptyNeedle,
-    // a number that is no byte
+    /// a number that is no byte
     NotByte,
-    // maketrans with lists of unequal lengths
+    /// maketrans with lists of unequal lengths
     UnequalLengths,
-    // a table that has not 256 bytes
+    /// a table that has not 256 bytes
     BadTable,
-    // a replace result above the greatest signed 64-bit number
+    /// a replace result above the greatest signed 64-bit number
     ResultTooLong,
-    // a text of too many bytes, or too many places to join
+    /// a text of too many bytes, or too many places to join
     TooLong,
-    // a tray or a place list with too little room for the whole result
+    /// a tray or a list with too little room for the whole result, with the bytes or entries needed
     TooSmall { needed: u64 },
-    // pour on a spent cutter
+    /// a pour on a spent cutter
     Spent,
-    // skip beyond the pieces that are left
+    /// a skip beyond the pieces that are left, with their number
     TooFew { left: u64 },
-    // ill-formed UTF-8, with the length of its longest well-formed beginning
+    /// ill-formed UTF-8, with the length of its longest well-formed beginning
     IllFormed { formed: u64 },
-    // a byte of 128 or more in a set for Text, with the least
+    /// a byte of 128 or more in a set for Text, with the least
     NotAscii { least: u8 },
-    // a stretch that does not run from a boundary to one at or after it; join gives its index
+    /// a stretch that does not run from a boundary to one at or after it; join gives its index
     BadPlace { index: u64 },
 }
 
 impl Refusal {
-    // The number of the refusal, and the whole number that it gives: 0 unless the case names one. Numbers, since that
-    // is how a sheet that is sent back tells its refusal.
+    /// The number of the refusal, from 1 to 12, and the number that it carries, or 0.
+    // Numbers, since that is how a sheet that is sent back tells its refusal.
     pub fn code(&self) -> (u8, u64)
         ensures { result ≡ code self.now }
     {

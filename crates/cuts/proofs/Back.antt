@@ -1,7 +1,6 @@
 -- What a cutter from the end gives next, by what a searcher answers from the end.
-use Rattle.std.proofs.Common.{◌≡◌, ℕ, suc, ◌-◌, ◌≤◌, Bool, true, false, List, [], ◌∷◌, map, length, Some, None, Option, ap, ◌∙◌, arith}
+use Rattle.std.proofs.Common.{◌≡◌, ℕ, suc, ◌-◌, ◌≤◌, Bool, true, false, [], map, length, Some, None, Option, ap, ◌∙◌, arith}
 use lib.ListN.{length-map}
-use Rattle.std.specs.Iterator.{YieldsFirst}
 use Rattle.std.specs.Option.{option_map}
 use Rattle.anystr.specs.Limits.{most_bytes}
 use Rattle.searchers.specs.Marks.{Span, Lawful, Greatest, NoneBefore}
@@ -11,7 +10,7 @@ use Rattle.cuts.proofs.Greedy.{Few}
 use Rattle.cuts.proofs.Found.{next-cut, next-rest, none_found, used_up}
 use Rattle.cuts.proofs.Mirror.{mirror-lawful, mirror-least, mirror-none}
 use Rattle.cuts.proofs.Sizes.{pieces-few}
-use Rattle.cuts.proofs.Yielding.{next_yields}
+use Rattle.cuts.proofs.Yielding.{GivesFirst, next_yields}
 
 module _ (on : Opening) (law : Lawful on.marks (size on)) where
   end-law : Lawful (from_end on).marks (size (from_end on))
@@ -22,43 +21,53 @@ module _ (on : Opening) (law : Lawful on.marks (size on)) where
 
   -- the next piece is the first of those that are left
   pub back_yields : (place made : ℕ) (spent : Bool)
-      → YieldsFirst (left_back on) (at place made spent) (next_back on (at place made spent)).0 (next_back on (at place made spent)).1
+      → GivesFirst (left_back on) (at place made spent) (next_back on (at place made spent))
   back_yields place made spent = turned (next_of (from_end on) s).0 (next_yields (from_end on) end-law place made spent)
     where
       s : State
       s = at place made spent
 
-      turned : (r : Option Span) → YieldsFirst (pieces_left (from_end on)) s r (next_of (from_end on) s).1
-          → YieldsFirst (left_back on) s (option_map (flip (size on)) r) (next_of (from_end on) s).1
+      t : State
+      t = (next_of (from_end on) s).1
+
+      turned : (r : Option Span) → GivesFirst (pieces_left (from_end on)) s (r, t)
+          → GivesFirst (left_back on) s (option_map (flip (size on)) r, t)
       turned None h = (ap (map (flip (size on))) h.0, ap (map (flip (size on))) h.1)
       turned (Some p) h = ap (map (flip (size on))) h
 
   module _ (place made : ℕ) (spent : Bool) (unspent : spent ≡ false) (within : place ≤ size on) where
-    -- what comes where so much comes seen from the end
-    seen_next : (a : ℕ) (t : State) → a ≤ size on
-        → next_of (from_end on) (at (size on - place) made false) ≡ (Some (size on - place, size on - a), t)
-        → next_back on (at (size on - place) made spent) ≡ (Some (a, place), t)
-    seen_next a t le e =
+    -- the place as it is seen from the end
+    abbrev seen : ℕ
+    seen = size on - place
+
+    -- this piece comes next, and leaves this state
+    abbrev pub Comes : Span → State → Type 0
+    Comes p t = next_back on (at seen made spent) ≡ (Some p, t)
+
+    comes : (a : ℕ) (t : State) → a ≤ size on
+        → next_of (from_end on) (at seen made false) ≡ (Some (seen, size on - a), t) → Comes (a, place) t
+    comes a t le e =
         let start : size on - (size on - a) ≡ a = omega arith in
         let stop : size on - (size on - place) ≡ place = omega arith in
-        (λ i. next_back on (at (size on - place) made (unspent i)))
+        (λ i. next_back on (at seen made (unspent i)))
         ∙ ((λ i. (option_map (flip (size on)) (e i).0, (e i).1)) ∙ (λ i. (Some (start i, stop i), t)))
 
-    -- the piece from the start of the text, which is the last
-    back_rest : cut_from (from_end on) made (size on - place) ≡ []
-        → next_back on (at (size on - place) made spent) ≡ (Some (0, place), at (size on) made true)
-    back_rest none =
+    -- the last piece begins at the start of the text
+    comes_last : cut_from (from_end on) made seen ≡ [] → Comes (0, place) (at (size on) made true)
+    comes_last none =
         let all : size on ≡ size on - 0 = omega arith in
-        seen_next 0 _ (omega arith) (next-rest (from_end on) end-law made (size on - place) none ∙ (λ i. (Some (size on - place, all i), at (size on) made true)))
+        comes 0 _ (omega arith)
+        (next-rest (from_end on) end-law made seen none ∙ (λ i. (Some (seen, all i), at (size on) made true)))
 
-    pub back_used : (fewer made on.bound ≡ false) → next_back on (at (size on - place) made spent) ≡ (Some (0, place), at (size on) made true)
-    back_used used = back_rest (used_up (from_end on) end-law made (size on - place) used)
+    pub back_used : fewer made on.bound ≡ false → Comes (0, place) (at (size on) made true)
+    back_used used = comes_last (used_up (from_end on) end-law made seen used)
 
-    pub back_none : NoneBefore on.marks place → next_back on (at (size on - place) made spent) ≡ (Some (0, place), at (size on) made true)
-    back_none none = back_rest (none_found (from_end on) end-law made (size on - place) (mirror-none on.marks (size on) law place within none))
+    pub back_none : NoneBefore on.marks place → Comes (0, place) (at (size on) made true)
+    back_none none =
+        comes_last (none_found (from_end on) end-law made seen (mirror-none on.marks (size on) law place within none))
 
     pub back_cut : (a e : ℕ) → Few on.bound made → Greatest on.marks place a e
-        → next_back on (at (size on - place) made spent) ≡ (Some (e, place), at (size on - a) (suc made) false)
+        → Comes (e, place) (at (size on - a) (suc made) false)
     back_cut a e few g =
         let least = mirror-least on.marks (size on) law place a e within g in
-        seen_next e _ (law.within a e g.is) (next-cut (from_end on) end-law made (size on - place) (size on - e) (size on - a) few least)
+        comes e _ (law.within a e g.is) (next-cut (from_end on) end-law made seen (size on - e) (size on - a) few least)

@@ -1,2 +1,3 @@
 pub mod OfText
+pub mod Text
 pub mod Checks

@@ -1,33 +1,34 @@
 // The kind of text whose elements are Unicode scalar values in UTF-8.
 #![tactic(auto)]
 
-ghost use Rattle.std.specs.Prelude.{◌≡◌, ◌≤◌, [], length, MatchResult};
-ghost use Rattle.std.proofs.Math.Utf8.{encode};
-ghost use Rattle.utf8.specs.Table.{WellFormed, TableIsUtf8};
-ghost use Rattle.utf8.proofs.Rows.{utf8_had};
-ghost use Rattle.text.specs.Checks.{Textual, NotText};
+ghost use Rattle.std.specs.Prelude.{◌≡◌, ◌≤◌, [], length, IfOk};
+ghost use Rattle.utf8.specs.Table.{IsWellFormed, TableIsUtf8};
 ghost use Rattle.anystr.specs.Limits.{most_bytes};
-ghost use Rattle.text.specs.OfText.{letters, filled as filled_text, few as few_text, whole as whole_text};
+ghost use Rattle.text.specs.Checks.{IsTextual, ChecksText};
+ghost use Rattle.text.specs.OfText.{letters};
 
 use anystr::anystr::{AnyStr, MAX_BYTES};
 use anystr::refusal::Refusal;
 use std::ops::Range;
 use utf8::check_utf8;
 
-// A text of characters. Its bytes are well formed by Table 3-7 of the Unicode Standard.
+/// A text whose elements are characters, that is Unicode scalar values. Its bytes are well formed
+/// by Table 3-7 of the Unicode Standard.
 #[derive(Clone, Copy)]
 pub struct Text<'a> {
     text: &'a str,
     ghost few: { length text.now ≤ most_bytes },
-    ghost formed: { ∥ WellFormed text.now ∥₁ },
+    ghost formed: { ∥ IsWellFormed text.now ∥₁ },
 }
 
 impl<'a> TryFrom<&'a [u8]> for Text<'a> {
     type Error = Refusal;
 
-    ghost try_from_gives = { λ bytes r. MatchResult r (λ text. Textual bytes.now × (letters text.text.now ≡ letters bytes.now)) (λ e. NotText bytes.now e) };
+    ghost try_from_gives = { λ bytes r. ChecksText bytes.now r
+        × IfOk r (λ text. ⟦<Text<'a> as AnyStr>⟧.elements text ≡ letters bytes.now) };
 
-    // The text of the bytes; refused where they are too many or ill formed.
+    /// The text of the bytes; refused (6) where they are more than `MAX_BYTES`, and then (10, with
+    /// the length of their longest well-formed beginning) where they are ill formed.
     fn try_from(bytes: &'a [u8]) -> Result<Text<'a>, Refusal> {
         if bytes.len() > MAX_BYTES {
             return Err(Refusal::TooLong);
@@ -39,37 +40,45 @@ impl<'a> TryFrom<&'a [u8]> for Text<'a> {
     }
 }
 
-// The same two lines as in `Bytes`. Provided by a trait, they could promise only what a ghost member says.
+// The same two lines as in `Bytes`: provided by a trait, they could promise only what a ghost
+// member says.
 impl<'a> Text<'a> {
-    // Whether the bytes can be a text.
+    /// Whether the bytes can be a text; refused (6) where they are more than `MAX_BYTES`, and then
+    /// (10, with the length of their longest well-formed beginning) where they are ill formed.
     pub fn check(bytes: &[u8]) -> Result<(), Refusal>
-        ensures cases { MatchResult result (λ _. Textual bytes.now) (λ e. NotText bytes.now e) }
+        ensures answer { ChecksText bytes.now result }
         ensures table { TableIsUtf8 }
     {
         Text::try_from(bytes).map(|_| ())
     }
 
-    // The text of the bytes; the empty text where `check` refuses.
+    /// The text of the bytes; the empty text where `check` refuses.
     pub fn new(bytes: &'a [u8]) -> Text<'a>
-        ensures given { Textual bytes.now → letters result.text.now ≡ letters bytes.now }
-        ensures refused { (Textual bytes.now → ⊥) → letters result.text.now ≡ [] }
+        ensures given { IsTextual bytes.now
+            → ⟦<Text<'a> as AnyStr>⟧.elements result ≡ letters bytes.now }
+        ensures refused { ¬ IsTextual bytes.now → ⟦<Text<'a> as AnyStr>⟧.elements result ≡ [] }
     {
         Text::try_from(bytes).unwrap_or(Text { text: "" })
     }
 }
 
 impl<'a> AnyStr for Text<'a> {
+    ghost use Rattle.std.proofs.Math.Utf8.{encode};
+    ghost use Rattle.text.specs.OfText.{filled as filled_text, few as few_text};
+    ghost use Rattle.text.specs.OfText.{whole as whole_text};
+    ghost use Rattle.text.specs.Text.{text_bytes};
+
     type Char = char;
 
-    ghost elements = { λ s. letters s.text.now };
+    ghost elements = { λ s. letters (text_bytes s) };
 
     ghost encoded = { encode };
 
-    ghost filled = { λ s. filled_text s.text.now };
+    ghost filled = { λ s. filled_text (text_bytes s) };
 
-    ghost few = { λ s. few_text s.text.now (utf8_had s.text.now s.formed) s.few };
+    ghost few = { λ s. few_text (text_bytes s) s.formed s.few };
 
-    ghost whole = { λ s t p. whole_text s.text.now t.text.now p (utf8_had s.text.now s.formed) (utf8_had t.text.now t.formed) };
+    ghost whole = { λ s t. whole_text (text_bytes s) (text_bytes t) s.formed t.formed };
 
     fn as_bytes(&self) -> &[u8] {
         self.text.as_bytes()

@@ -1,5 +1,5 @@
 -- What a cutter from the end shows, and what each call on it promises. Assumes nothing.
-use Rattle.std.specs.Prelude.{◌≡◌, ℕ, ◌-◌, true, false, ◌⊎◌, List, ℤ, Some, None, Option}
+use Rattle.std.specs.Prelude.{◌≡◌, ◌-◌, true, false, ◌⊎◌, List, ℤ, Some, None, Option}
 use Rattle.std.specs.Option.{option_map}
 use Rattle.anystr.specs.declared.anystr.AnyStr
 use Rattle.searchers.specs.Marks.{Span, FindsBack}

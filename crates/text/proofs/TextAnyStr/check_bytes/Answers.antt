@@ -1,8 +1,9 @@
 use Rattle.std.proofs.Common.{refl, rules, arith}
 use Rattle.utf8.proofs.Rows.{utf8_had}
-use Rattle.text.specs.OfText.{boundary, boundary_back}
+use Rattle.text.specs.OfText.{boundary}
+use Rattle.text.proofs.Letters.{boundary_back}
 use Rattle.text.proofs.TextAnyStr.check_bytes.Goals as goal
-use Rattle.text.proofs.TextAnyStr.check_bytes.Goals.{else-range-via-then-range+then-is_char_boundary+else-is_char_boundary-2, else-range-via-then-range+else-is_char_boundary, else-range-via-else-range}
+use Rattle.text.proofs.TextAnyStr.check_bytes.Goals.{else-range-via-else-range}
 
 pub returns-then-is_char_boundary-2 : goal.returns-then-is_char_boundary-2
 returns-then-is_char_boundary-2 c =
@@ -18,10 +19,10 @@ pub returns-else-range : goal.returns-else-range
 returns-else-range c =
     let bs = c.args.self.now.text.now in
     let u = utf8_had bs c.args.self.now.formed in (
-      λ k. let o = k.order in let s = boundary_back bs c.args.range.start u k.start in let e = boundary_back bs c.args.range.end u k.end in elim c.else-range.branch [
-        | else-range-via-then-range+then-is_char_boundary+else-is_char_boundary-2 w ↦ search rules
-        | else-range-via-then-range+else-is_char_boundary w ↦ search rules
-        | else-range-via-else-range w ↦ omega arith
-      ],
+      λ k.
+          let o = k.order in
+          let s = boundary_back bs c.args.range.start u k.start in
+          let e = boundary_back bs c.args.range.end u k.end in
+          elim c.else-range.branch [ else-range-via-else-range w ↦ omega arith | _ ↦ search rules ],
       refl,
     )

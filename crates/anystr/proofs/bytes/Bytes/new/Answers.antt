@@ -1,14 +1,10 @@
-use Rattle.std.proofs.Common.{◌≡◌, ℕ, List, Ok, Err, Result, ap, ◌∙◌}
-use Rattle.std.specs.Result.{MatchResult, result_unwrap_or}
+use Rattle.std.proofs.Common.{◌≡◌, ap, ◌∙◌}
+use Rattle.anystr.specs.Bytes.{byte_list}
 use Rattle.anystr.specs.OfBytes.{singles}
-use Rattle.anystr.specs.declared.bytes.Bytes.{Bytes}
+use Rattle.anystr.proofs.Mapped.{made}
 use Rattle.anystr.proofs.bytes.Bytes.new.Goals as goal
 
--- where a text is given, it is not the other one
-given : {E : Type 0} (P : Type 0) (B : E → Type 0) (es : List (List ℕ)) (r : Result Bytes E) (other : Bytes)
-    → MatchResult r (λ t. P × (singles t.bytes.now ≡ es)) (λ e. (P → ⊥) × B e) → P → singles (result_unwrap_or r other).bytes.now ≡ es
-given P B es (Ok t) other p h = p.1
-given P B es (Err e) other p h = absurd (p.0 h)
-
 pub returns-clause-given : goal.returns-clause-given
-returns-clause-given c h = ap (λ t. singles t.bytes.now) c.unwrap_or.ensures ∙ given _ _ _ c.try_from.result _ c.try_from.ensures h
+returns-clause-given c h =
+    ap (λ t. singles (byte_list t)) c.unwrap_or.ensures
+    ∙ made (λ t. singles (byte_list t) ≡ singles c.args.bytes.now) _ _ c.try_from.result _ c.try_from.ensures h

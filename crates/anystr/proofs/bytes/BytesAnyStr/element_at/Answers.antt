@@ -2,7 +2,8 @@ use Rattle.std.proofs.Common.{◌≡◌, ◌<◌, ◌≤◌, [], ◌∷◌, leng
 use Rattle.std.proofs.lemmas.List.{length-take-le}
 use Rattle.std.proofs.lemmas.Grind.{get_or_default_zero}
 use Rattle.anystr.specs.Elements.{element_at, offset}
-use Rattle.anystr.specs.OfBytes.{singles, filled, length-singles, offset-singles, get_or-singles}
+use Rattle.anystr.specs.OfBytes.{singles, filled, offset-singles}
+use Rattle.anystr.proofs.Singles.{length-singles, get_or-singles}
 use Rattle.anystr.proofs.Begins.{begins, none-begins}
 use Rattle.anystr.proofs.bytes.BytesAnyStr.element_at.Goals as goal
 
@@ -11,7 +12,8 @@ returns-in_err-byte-clause-element c =
     let bs = c.args.self.now.bytes.now in
     let past : length bs ≤ c.args.offset = c.in_err-byte.ensures.lookup.3 in
     let l = length-singles bs in
-    rw c.from_residual.ensures (sym (none-begins (singles bs) c.args.offset (λ k h e. omega (arith, offset-singles k bs, length-take k bs))))
+    let none = none-begins (singles bs) c.args.offset (λ k h e. omega (arith, offset-singles k bs, length-take k bs)) in
+    rw c.from_residual.ensures (sym none)
 
 pub returns-clause-element : goal.returns-clause-element
 returns-clause-element c =
@@ -22,4 +24,5 @@ returns-clause-element c =
     let is : c.in_ok-byte.byte.now ≡ slice_index bs at = found.1 ∙ get_or_default_zero bs at _ within in
     let l = length-singles bs in
     let here : offset (singles bs) at ≡ at = offset-singles at bs ∙ length-take-le at bs (omega arith) in
-    ap (λ b. Some (b ∷ [])) is ∙ sym (ap (element_at (singles bs)) (sym here) ∙ (begins (singles bs) at (filled bs) (omega arith) ∙ ap Some (get_or-singles bs at within)))
+    let some = begins (singles bs) at (filled bs) (omega arith) ∙ ap Some (get_or-singles bs at within) in
+    ap (λ b. Some (b ∷ [])) is ∙ sym (ap (element_at (singles bs)) (sym here) ∙ some)

@@ -1,5 +1,5 @@
 use Rattle.std.proofs.Common.{sym}
-use Rattle.anystr.specs.OfBytes.{length-singles}
+use Rattle.anystr.proofs.Singles.{length-singles}
 use Rattle.anystr.proofs.bytes.BytesAnyStr.element_count.Goals as goal
 
 pub returns : goal.returns

@@ -13,9 +13,11 @@ pub returns-then-not-fewer : goal.returns-then-not-fewer
 returns-then-not-fewer g c =
     let k = c.args.self.now in
     let fits : SFits w64 k.bound = search rules in
-    record { value = inl (ap (fewer k.progress.made) (sym (to_z-of_z w64 k.bound fits)) ∙ sym c.if-not-fewer.ensures); cut = tt }
+    let used = ap (fewer k.progress.made) (sym (to_z-of_z w64 k.bound fits)) ∙ sym c.if-not-fewer.ensures in
+    record { value = inl used; cut = tt }
 
-found : {S F C : Type 0} {s : AnyStr.Ghosts S C} {f : Searcher.Ghosts F S C} (c : BackCutter S F C s f) → fewer c.progress.made c.bound ≡ true
+found : {S F C : Type 0} {s : AnyStr.Ghosts S C} {f : Searcher.Ghosts F S C} (c : BackCutter S F C s f)
+    → fewer c.progress.made c.bound ≡ true
     → (r : Option Mark) → FindsBack (opening c).marks c.progress.place r → CutsNext c r
 found c more None h = inr h
 found c more (Some m) h = (more, h)

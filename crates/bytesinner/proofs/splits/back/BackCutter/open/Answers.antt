@@ -15,7 +15,10 @@ invariant_of-result g c =
     let es = g.S.AnyStr.elements c.args.text in
     let place = ap State.place c.from_place.ensures ∙ c.bytes_len-place.ensures in
     let made = ap State.made c.from_place.ensures in
-    record { placed = boundary_true es _ (subst (Boundary es) (sym place) (end_on es)); few = omega (arith, g.S.AnyStr.few c.args.text) }
+    record {
+      placed = boundary_true es _ (subst (Boundary es) (sym place) (end_on es));
+      few = omega (arith, g.S.AnyStr.few c.args.text);
+    }
 
 pub returns-clause-state : goal.returns-clause-state
 returns-clause-state g c = let e = ap State.place c.from_place.ensures in begun c.from_place.result _ _ c.from_place.ensures (omega arith)

@@ -11,7 +11,8 @@ pub returns-then-len-eq0-clause-steps : goal.returns-then-len-eq0-clause-steps
 returns-then-len-eq0-clause-steps g c =
     let rs = c.args.self.now in
     let s = scanned c.as_bytes.result.now c.in_ok-rest.rest.now c.as_bytes.ensures c.in_ok-rest.ensures.lookup.0.2 c.stretch_len-passed.ensures.value c.stretch_len-len.ensures.value in
-    record { step = ap (first_run rs.place) (sym (none_left (bytes g.S.AnyStr rs) rs.place _ _ s c.if-len-eq0.true)); same = refl }
+    let none = none_left (bytes g.S.AnyStr rs) rs.place _ _ s c.if-len-eq0.true in
+    record { step = ap (first_run rs.place) (sym none); same = refl }
 
 pub returns : goal.returns
 returns g c =
