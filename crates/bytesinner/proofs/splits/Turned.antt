@@ -1,14 +1,12 @@
 -- A list of places that is turned round.
-use Rattle.std.proofs.Common.{◌≡◌, ℕ, ◌<◌, List, [], ◌∷◌, ◌++◌, map, reverse, length, take, drop, ℤ, Ok, Err, Result}
-use Rattle.std.proofs.Common.{sym, refl, ap, ◌∙◌, arith}
+use Rattle.std.proofs.Common.{◌≡◌, ℕ, ◌<◌, List, [], ◌∷◌, ◌++◌, map, reverse, length, take, drop, ℤ, Ok, Err, Result, sym, refl, ap, ◌∙◌, arith}
 use mathlib.Core.List.{reverse-cons}
-use Rattle.std.specs.List.{concat}
 use Rattle.std.proofs.lemmas.List.{map_push, length-map, length-reverse, take_at, drop_at}
 use Rattle.anystr.specs.Places.{Lists, stretch, stretches}
 use Rattle.anystr.specs.declared.anystr.AnyStr
 use Rattle.anystr.specs.declared.place.Place.{Place}
 use Rattle.anystr.specs.declared.refusal.Refusal.{Refusal}
-use Rattle.searchers.specs.Marks.{Marks, Span}
+use Rattle.searchers.specs.Marks.{Span}
 use Rattle.searchers.specs.declared.searcher.Searcher
 use Rattle.searchers.specs.substring.Occurrences.{occurrence}
 use Rattle.cuts.specs.Cuts.{at_opening}
@@ -23,9 +21,11 @@ abbrev pub from_back : (bytes sep : List ℕ) → ℤ → List Span
 from_back bytes sep maxsplit = map (flip (length bytes)) (pieces_of (mirror (occurrence sep bytes) (length bytes)) (length bytes) maxsplit)
 
 -- what a cutter from the end has left where it has just been opened
-pub opened-left : {S F C : Type 0} {s : AnyStr.Ghosts S C} {f : Searcher.Ghosts F S C} {text : S} {searcher : F} {bound : ℤ} (c : BackCutter S F C s f)
-    → IsOn text searcher bound c → state c ≡ at_opening → left_pieces c ≡ left_back (opening_of s f text searcher bound) at_opening
-opened-left {s = s} {f = f} c on first = λ i. left_back (opening_of s f (on.text i) (on.searcher i) (on.bound i)) (first i)
+pub opened-left : {S F C : Type 0} {s : AnyStr.Ghosts S C} {f : Searcher.Ghosts F S C}
+    {text : S} {searcher : F} {bound : ℤ} (c : BackCutter S F C s f) → IsOn text searcher bound c → state c ≡ at_opening
+    → left_pieces c ≡ left_back (opening_of s f text searcher bound) at_opening
+opened-left {s = s} {f = f} c on first =
+    λ i. left_back (opening_of s f (on.text i) (on.searcher i) (on.bound i)) (first i)
 
 stretches-reverse : (ps : List Place) → stretches (reverse ps) ≡ reverse (stretches ps)
 stretches-reverse [] = refl

@@ -1,15 +1,12 @@
 -- The runs that are left, past the whitespace at the front and past the run that follows it.
-use Rattle.std.proofs.Common.{◌≡◌, ℕ, suc, ◌+◌, ◌<◌, Bool, true, false, not, ltb, List, [], ◌∷◌, ◌++◌, length, drop}
-use Rattle.std.proofs.Common.{sym, refl, ap, ◌∙◌, subst, arith}
+use Rattle.std.proofs.Common.{◌≡◌, ℕ, suc, ◌+◌, ◌<◌, Bool, true, false, not, ltb, List, [], ◌∷◌, ◌++◌, length, drop, sym, refl, ap, ◌∙◌, subst, arith}
 use Rattle.std.specs.Bool.{beq}
 use Rattle.std.specs.List.{slice_range}
 use Rattle.std.proofs.lemmas.List.{drop-drop, append-nil, take_rest}
-use Rattle.std.proofs.lemmas.Bool.{lt-ltb, le-ltb, cond_both, cond-true, cond-false}
+use Rattle.std.proofs.lemmas.Bool.{lt-ltb, cond_both, cond-true, cond-false}
 use Rattle.searchers.specs.Marks.{Span}
-use Rattle.bytesinner.specs.words.Words.{is_space, stretch_len, run, runs_from}
-
-no_run : (p : ℕ) → run p p ≡ []
-no_run p = cond-false (ltb p p) _ _ (le-ltb p p (omega arith))
+use Rattle.bytesinner.specs.words.Words.{is_space, stretch_len, run, runs_from, runs_left}
+use Rattle.bytesinner.specs.words.Yields.{no_run}
 
 one_run : (a e : ℕ) → a < e → run a e ≡ (a, e) ∷ []
 one_run a e lt = cond-true (ltb a e) _ _ (lt-ltb a e lt)
@@ -80,17 +77,18 @@ scanned {place = place} {passed = passed} all rest same is over through =
     }
 
 module _ (bytes : List ℕ) (place passed len : ℕ) (s : Scanned bytes place passed len) where
-  passed_over : runs_from place place (drop place bytes) ≡ runs_from (place + passed) (place + passed) (drop passed (drop place bytes))
+  passed_over : runs_left bytes place ≡ runs_from (place + passed) (place + passed) (drop passed (drop place bytes))
   passed_over = over_space place (drop place bytes) ∙ ap (λ (n : ℕ). runs_from (place + n) (place + n) (drop n (drop place bytes))) (sym s.over)
 
-  pub none_left : len ≡ 0 → runs_from place place (drop place bytes) ≡ []
+  pub none_left : len ≡ 0 → runs_left bytes place ≡ []
   none_left none =
       let at_end : drop passed (drop place bytes) ≡ [] =
       ap (λ (n : ℕ). drop n (drop place bytes)) s.over
       ∙ ends (drop place bytes) (ap (λ (n : ℕ). stretch_len (drop n (drop place bytes)) false) (sym s.over) ∙ (sym s.through ∙ none)) in
       passed_over ∙ (ap (runs_from (place + passed) (place + passed)) at_end ∙ no_run (place + passed))
 
-  pub run_after : 0 < len → runs_from place place (drop place bytes) ≡ (place + passed, place + passed + len) ∷ runs_from (place + passed + len) (place + passed + len) (drop (place + passed + len) bytes)
+  pub run_after : 0 < len
+      → runs_left bytes place ≡ (place + passed, place + passed + len) ∷ runs_left bytes (place + passed + len)
   run_after some =
       let start : ℕ = place + passed in
       let end : ℕ = start + len in

@@ -42,13 +42,11 @@ lines_of bytes keepends = lines_at (line_end bytes) (length bytes) keepends
 abbrev pub lines_left : Opening → Bool → State → List Span
 lines_left on keepends s = lines_from keepends (size on) (pieces_left on s)
 
--- a piece that a cutter gave as a line, which with its end goes on to the cutter's place after it; and the cutter's
--- state
+-- what a cutter's next gives, as a line, which with its end goes on to the place after it; and the state after it
 abbrev pub line_of : Bool → Option Span × State → Option Span × State
 line_of keepends n = (option_map (λ p. (p.0, if keepends then n.1.place else p.1)) n.0, n.1)
 
--- the next line of a cutter, and the cutter's state after it: where the rest is empty there is none, and the state
--- stays
+-- the next line of a cutter, and its state after it: where the rest is empty there is none, and the state stays
 abbrev pub next_line : Opening → Bool → State → Option Span × State
 next_line on keepends s = if nat_lt s.place (size on) then line_of keepends (next_of on s) else (None, s)
 

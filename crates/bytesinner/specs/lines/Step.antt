@@ -1,6 +1,5 @@
 -- The next line is the first of the lines that are left. Assumes nothing.
 use Rattle.std.specs.Prelude.{if◌then◌else◌}
-use Rattle.std.specs.Iterator.{YieldsFirst}
 use Rattle.std.proofs.Common.{◌≡◌, ℕ, suc, ◌<◌, ◌≤◌, Bool, true, false, ltb, List, [], ◌∷◌, Some, Option, sym, refl, ap}
 use Rattle.std.proofs.Common.{◌∙◌, subst, arith}
 use Rattle.std.proofs.lemmas.Bool.{lt-ltb, le-ltb, ltb-true, ltb-false, cond_both}
@@ -8,6 +7,7 @@ use Rattle.searchers.specs.Marks.{Span, Lawful}
 use Rattle.cuts.specs.Cuts.{Opening, size, State, at, cut_from, between, next_of, after_cut}
 use Rattle.cuts.proofs.Found.{marks_from_past}
 use Rattle.cuts.proofs.Left.{first}
+use Rattle.cuts.proofs.Yielding.{GivesFirst}
 use Rattle.bytesinner.specs.lines.Lines.{filled_pieces, start_or, with_ends, lines_from, lines_left, line_of, next_line}
 
 -- a piece before others is a line
@@ -59,9 +59,9 @@ module _ (on : Opening) (law : Lawful on.marks (size on)) (keep : Bool) where
       ap (lines_between place) no_cut
       ∙ ap (as_kept keep (size on)) (no_line place (size on) past) ∙ no_lines keep (size on)
 
-  -- an answer, and the state after it, give the first of the lines that are left
+  -- what is given, with the state after it, is the first of the lines that are left
   abbrev LineFirst : State → Option Span × State → Type 0
-  LineFirst s n = YieldsFirst (lines_left on keep) s n.0 n.1
+  LineFirst = GivesFirst (lines_left on keep)
 
   lined_last : (place made : ℕ) → place < size on → cut_from on made place ≡ []
       → LineFirst (at place made false) (line_of keep (Some (place, size on), at (size on) made true))
@@ -81,11 +81,7 @@ module _ (on : Opening) (law : Lawful on.marks (size on)) (keep : Bool) where
       ∙ lines_cons keep (size on) place m.0 m.1 others (starts m.1 (size on) ms f.within)
       ∙ ap (λ (cs : List Span). line ∷ lines_between m.1 cs) (sym f.others)
 
-  -- the same of the answer that these cuts give
-  abbrev CutsFirst : State → List Span → Type 0
-  CutsFirst s ms = LineFirst s (line_of keep (after_cut (size on) s ms))
-
-  -- a piece makes a line where the rest is not empty
+  -- a cutter's next makes a line where the rest is not empty
   lined : (place made : ℕ) (spent : Bool) → place < size on
       → LineFirst (at place made spent) (line_of keep (next_of on (at place made spent)))
   lined place made true lt = (no_lines keep (size on), no_lines keep (size on))
@@ -94,9 +90,12 @@ module _ (on : Opening) (law : Lawful on.marks (size on)) (keep : Bool) where
       s : State
       s = at place made false
 
-      by : (ms : List Span) → cut_from on made place ≡ ms → LineFirst s (line_of keep (next_of on s))
-      by [] e = subst (CutsFirst s) (sym e) (lined_last place made lt e)
-      by (m ∷ ms) e = subst (CutsFirst s) (sym e) (lined_cut place made m ms e)
+      cut : List Span → Option Span × State
+      cut ms = line_of keep (after_cut (size on) s ms)
+
+      by : (ms : List Span) → cut_from on made place ≡ ms → LineFirst s (cut (cut_from on made place))
+      by [] e = subst (λ (ms : List Span). LineFirst s (cut ms)) (sym e) (lined_last place made lt e)
+      by (m ∷ ms) e = subst (λ (ms : List Span). LineFirst s (cut ms)) (sym e) (lined_cut place made m ms e)
 
   -- the next line is the first of those that are left
   pub line_yields : (place made : ℕ) (spent : Bool)

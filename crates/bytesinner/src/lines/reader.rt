@@ -1,10 +1,9 @@
 // The pieces of a text without an empty last one, one after another.
-ghost use Rattle.std.specs.Prelude.{◌≡◌, refl};
+ghost use Rattle.std.specs.Prelude.{◌≡◌};
 ghost use Rattle.std.specs.Iterator.{item_count};
 ghost use Rattle.cuts.specs.Cuts.{at_opening};
 ghost use Rattle.bytesinner.specs.lines.Reader.{state, left_lines, IsOn, LineStep};
-ghost use Rattle.bytesinner.specs.lines.Few.{left_lines-few};
-ghost use Rattle.bytesinner.specs.lines.Yields.{next-yields};
+ghost use Rattle.bytesinner.specs.lines.Yields.{next-yields, counts_down};
 
 use anystr::anystr::AnyStr;
 use cutters::bound::UNBOUNDED;
@@ -66,11 +65,8 @@ impl<S: AnyStr, F: Searcher<S> + Drop> Pieces for Lines<S, F> {
 
     ghost asked = { λ _. tt };
 
-    ghost gives = { λ l r m. next-yields l m r
-        (F.lawful l.cutter.searcher l.cutter.text) };
+    ghost gives = { λ l. next-yields l (F.lawful l.cutter.searcher l.cutter.text) };
 
-    ghost counts = { λ l. record {
-      all = refl;
-      few = left_lines-few l (F.lawful l.cutter.searcher l.cutter.text) (S.few l.cutter.text);
-    } };
+    ghost counts = { λ l. counts_down l (F.lawful l.cutter.searcher l.cutter.text)
+        (S.few l.cutter.text) };
 }

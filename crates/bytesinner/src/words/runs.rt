@@ -1,10 +1,9 @@
 // The runs of a text between whitespace, one after another.
-ghost use Rattle.std.specs.Prelude.{◌≡◌, ◌≤◌, length, refl};
+ghost use Rattle.std.specs.Prelude.{◌≡◌, ◌≤◌, length};
 ghost use Rattle.std.specs.Iterator.{item_count};
 ghost use Rattle.bytesinner.specs.words.Words.{is_space, stretch_len};
-ghost use Rattle.bytesinner.specs.words.Runs.{bytes, left_runs, IsOn, RunStep};
-ghost use Rattle.bytesinner.specs.words.Few.{runs_left-few};
-ghost use Rattle.bytesinner.specs.words.Yields.{next-yields};
+ghost use Rattle.bytesinner.specs.words.Runs.{left_runs, IsOn, RunStep};
+ghost use Rattle.bytesinner.specs.words.Yields.{next-yields, counts_down};
 
 use anystr::anystr::AnyStr;
 use cutters::piece::Piece;
@@ -73,8 +72,5 @@ impl<S: AnyStr> Pieces for Runs<S> {
 
     ghost gives = { next-yields S.AnyStr };
 
-    ghost counts = { λ s. record {
-      all = refl;
-      few = runs_left-few s.place (bytes S.AnyStr s) (S.few s.text);
-    } };
+    ghost counts = { λ s. counts_down S.AnyStr s (S.few s.text) };
 }

@@ -1,12 +1,10 @@
 // The calls on a cutter from the end.
-ghost use Rattle.std.specs.Prelude.{◌≡◌, refl};
+ghost use Rattle.std.specs.Prelude.{◌≡◌};
 ghost use Rattle.std.specs.Iterator.{item_count};
 ghost use Rattle.searchers.specs.Marks.{OnBoundaries};
 ghost use Rattle.cuts.specs.Cuts.{at_opening};
-ghost use Rattle.cuts.proofs.Back.{back_few};
-ghost use Rattle.bytesinner.specs.splits.Back.{opening, state, left_pieces};
-ghost use Rattle.bytesinner.specs.splits.Back.{IsOn, BackStep, CutsNext};
-ghost use Rattle.bytesinner.specs.splits.Yields.{next-yields};
+ghost use Rattle.bytesinner.specs.splits.Back.{state, left_pieces, IsOn, BackStep, CutsNext};
+ghost use Rattle.bytesinner.specs.splits.Yields.{next-yields, counts_down};
 
 use super::BackCutter;
 use anystr::anystr::AnyStr;
@@ -78,10 +76,7 @@ impl<S: AnyStr, F: ReverseSearcher<S> + Drop> Pieces for BackCutter<S, F> {
 
     ghost asked = { λ _. tt };
 
-    ghost gives = { λ c r d. next-yields c d r (F.Searcher.lawful c.searcher c.text) };
+    ghost gives = { λ c. next-yields c (F.Searcher.lawful c.searcher c.text) };
 
-    ghost counts = { λ c. record {
-      all = refl;
-      few = back_few (opening c) (F.Searcher.lawful c.searcher c.text) (S.few c.text) (state c);
-    } };
+    ghost counts = { λ c. counts_down c (F.Searcher.lawful c.searcher c.text) (S.few c.text) };
 }

@@ -22,4 +22,5 @@ pub returns-clause-total : goal.returns-clause-total
 returns-clause-total g c =
     let t = g.S.AnyStr in
     let ran = c.count-total.ensures.ran in
-    ran.2 ∙ (counted (RunStep t) (left_runs t) (next-yields t) c.new.result ran.0 ran.1 ∙ ap length (opened-left c.new.result c.new.ensures))
+    let all = opened-left c.new.result c.new.ensures in
+    ran.2 ∙ (counted (RunStep t) (left_runs t) (next-yields t) c.new.result ran.0 ran.1 ∙ ap length all)

@@ -9,7 +9,9 @@ use Rattle.bytesinner.specs.splits.Yields.{next-yields}
 use Rattle.bytesinner.proofs.splits.back.calls.BackCutterIterator.next.Goals as goal
 
 pub invariant_of-self : goal.invariant_of-self
-invariant_of-self g c = record { placed = boundary_true (g.S.AnyStr.elements c.args.self.now.text) 0 (0, refl); few = omega arith }
+invariant_of-self g c =
+    let es = g.S.AnyStr.elements c.args.self.now.text in
+    record { placed = boundary_true es 0 (0, refl); few = omega arith }
 
 pub invariant_of-self-2 : goal.invariant_of-self-2
 invariant_of-self-2 g c =
@@ -17,7 +19,8 @@ invariant_of-self-2 g c =
     let mark = c.in-Some.mark in
     let found = c.in-Some.ensures.value.1 in
     let long = (g.met.F.Searcher.lawful k.searcher k.text).nonempty mark.start mark.end found.is in
-    record { placed = boundary_true (g.S.AnyStr.elements k.text) mark.start c.in-Some.ensures.cut.0; few = omega (arith, found.ahead) }
+    let es = g.S.AnyStr.elements k.text in
+    record { placed = boundary_true es mark.start c.in-Some.ensures.cut.0; few = omega (arith, found.ahead) }
 
 pub returns-in_default-clause-steps : goal.returns-in_default-clause-steps
 returns-in_default-clause-steps g c =
@@ -28,8 +31,11 @@ returns-in_default-clause-steps g c =
     let placed = boundary_from es k.progress.place k.placed in
     let within : k.progress.place ≤ size on = omega (arith, offset-within es placed.0, placed.1) in
     let all : size on - 0 ≡ size on = omega arith in
-    let last = ⊎_elim (back_used on law k.progress.place k.progress.made k.progress.spent c.if-self.false within)
-    (back_none on law k.progress.place k.progress.made k.progress.spent c.if-self.false within) c.in_default.ensures.value in
+    let p = k.progress in
+    let last = ⊎_elim
+    (back_used on law p.place p.made p.spent c.if-self.false within)
+    (back_none on law p.place p.made p.spent c.if-self.false within)
+    c.in_default.ensures.value in
     record {
       step = (λ i. (Some (0, k.progress.place), at (all i) k.progress.made true)) ∙ sym last;
       same = record { text = refl; searcher = refl; bound = refl };
@@ -39,7 +45,8 @@ returns-in_default-clause-steps g c =
 pub returns-in_default-clause-goes : goal.returns-in_default-clause-goes
 returns-in_default-clause-goes g c =
     let k = c.args.self.now in
-    goes_on span left_pieces k _ _ (next-yields k _ _ (g.met.F.Searcher.lawful k.searcher k.text) (returns-in_default-clause-steps g c))
+    let law = g.met.F.Searcher.lawful k.searcher k.text in
+    goes_on span left_pieces k _ _ (next-yields k law _ _ (returns-in_default-clause-steps g c))
 
 pub returns-clause-steps : goal.returns-clause-steps
 returns-clause-steps g c =
@@ -52,9 +59,10 @@ returns-clause-steps g c =
     let within : k.progress.place ≤ size on = omega (arith, offset-within es placed.0, placed.1) in
     let one : k.progress.made + 1 ≡ suc k.progress.made = add-one k.progress.made in
     let found = c.in-Some.ensures.value in
-    let cut = back_cut on law k.progress.place k.progress.made k.progress.spent c.if-self.false within mark.start mark.end (found.0) found.1 in
+    let p = k.progress in
+    let cut = back_cut on law p.place p.made p.spent c.if-self.false within _ _ found.0 found.1 in
     record {
-      step = (λ i. (Some (mark.end, k.progress.place), at (size on - mark.start) (one i) (c.if-self.false i))) ∙ sym cut;
+      step = (λ i. (Some (mark.end, p.place), at (size on - mark.start) (one i) (c.if-self.false i))) ∙ sym cut;
       same = record { text = refl; searcher = refl; bound = refl };
       cut = (c.in-Some.ensures.cut.1, placed);
     }
@@ -62,4 +70,5 @@ returns-clause-steps g c =
 pub returns-clause-goes : goal.returns-clause-goes
 returns-clause-goes g c =
     let k = c.args.self.now in
-    goes_on span left_pieces k _ _ (next-yields k _ _ (g.met.F.Searcher.lawful k.searcher k.text) (returns-clause-steps g c))
+    let law = g.met.F.Searcher.lawful k.searcher k.text in
+    goes_on span left_pieces k _ _ (next-yields k law _ _ (returns-clause-steps g c))
