@@ -1,6 +1,8 @@
 -- Pieces that come one after another, and lists that are written from them.
-use Rattle.std.proofs.Common.{◌≡◌, ℕ, ◌+◌, ◌<◌, ◌≤◌, List, [], ◌∷◌, ◌++◌, length, get_or, take, drop, set, Ok, sym, ap, ◌∙◌, subst, arith, length-drop}
-use Rattle.std.proofs.lemmas.List.{drop-drop, take_more, drop_more, take_more_set, drop-set-lt, take_all, map-append, length-take-le, drop_all}
+use Rattle.std.proofs.Common.{◌≡◌, ℕ, ◌+◌, ◌<◌, ◌≤◌, List, [], ◌∷◌, ◌++◌, length, get_or, take, drop, set, Ok, sym, ap}
+use Rattle.std.proofs.Common.{◌∙◌, subst, arith, length-drop}
+use Rattle.std.proofs.lemmas.List.{drop-drop, take_more, drop_more, take_more_set, drop-set-lt, take_all, map-append}
+use Rattle.std.proofs.lemmas.List.{length-take-le, drop_all}
 use Rattle.anystr.specs.Places.{Lists, stretch, stretches}
 use Rattle.anystr.specs.declared.place.Place.{Place}
 use Rattle.searchers.specs.Marks.{Span}
