@@ -5,6 +5,7 @@ use Rattle.std.specs.List.{concat}
 use Rattle.std.proofs.lemmas.Bool.{cond-true, cond-false, eq-eqb, ne_eqb, le-leb, cases_eq}
 use Rattle.anystr.specs.Elements.{Filled}
 use Rattle.anystr.specs.Limits.{most_bytes}
+use Rattle.anystr.proofs.Walking.{count-within}
 use Rattle.searchers.specs.substring.Occurrences.{occurrence, occurrence-lawful}
 use Rattle.cuts.specs.Cuts.{all_marks, cut_from, poured}
 use Rattle.cuts.proofs.Sizes.{cuts-within, poured-within}
@@ -14,7 +15,6 @@ use Rattle.bytesinner.specs.replaces.Replaces.{if_short, ReplaceLaw}
 use Rattle.bytesinner.proofs.replaces.Spreading.{spread_text-with_copies, length-with_copies, spread_none}
 use Rattle.bytesinner.proofs.replaces.Spreading.{copy_count-few}
 use Rattle.bytesinner.proofs.replaces.Cutting.{no_cuts, poured-joined}
-use Rattle.bytesinner.proofs.replaces.Walking.{count-within}
 
 at-marks : (es : List (List ℕ)) (from to : List ℕ) (bound : ℤ) → (length from ≡ 0 → ⊥)
     → replaced_text es from to bound ≡ poured_text es from to bound

@@ -1,5 +1,5 @@
 use Rattle.std.proofs.Common.{arith}
-use Rattle.bytesinner.proofs.replaces.Walking.{count-within}
+use Rattle.anystr.proofs.Walking.{count-within}
 use Rattle.bytesinner.proofs.replaces.Replacement.copies.Goals as goal
 
 pub overflow_add-gaps : goal.overflow_add-gaps
