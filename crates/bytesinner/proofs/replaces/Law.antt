@@ -29,7 +29,8 @@ pub spread_text-long : (es : List (List ℕ)) (to : List ℕ) (bound : ℤ)
     → length (spread_text to bound 0 es) ≡ length (concat es) + copy_count (length es) bound * length to
 spread_text-long es to bound =
     let n = length es in
-    ap length (spread_text-with_copies to bound es) ∙ length-with_copies to (copy_count n bound) es (copy_count-few n bound)
+    ap length (spread_text-with_copies to bound es)
+    ∙ length-with_copies to (copy_count n bound) es (copy_count-few n bound)
 
 pub spread_text-within : (es : List (List ℕ)) (to : List ℕ) (bound : ℤ) → Filled es
     → length (spread_text to bound 0 es) ≤ length (concat es) + suc (length (concat es)) * length to

@@ -7,7 +7,8 @@ pub overflow_add-end : goal.overflow_add-end
 overflow_add-end g c =
     let text = c.args.text.now in
     let at = c.in-Some.ensures in
-    let here = element_here _ _ _ c.in-Some.len _ (g.S.AnyStr.filled text) c.loop-len.invariant.begins at.element at.len in
+    let here =
+    element_here _ _ _ c.in-Some.len _ (g.S.AnyStr.filled text) c.loop-len.invariant.begins at.element at.len in
     omega (arith, here.few, g.S.AnyStr.few text)
 
 pub slice_bounds-add_element-end : goal.slice_bounds-add_element-end
