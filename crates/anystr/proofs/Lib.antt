@@ -3,3 +3,4 @@ pub mod Boundaries
 pub mod Mapped
 pub mod Parts
 pub mod Singles
+pub mod Walking

@@ -8,10 +8,12 @@ use Rattle.trays.specs.Trays.{Contents, gained, IsFilled}
 pub gained-append : (tray : Contents) (xs ys : List ℕ) → gained (gained tray xs) ys ≡ gained tray (xs ++ ys)
 gained-append tray xs ys =
     let held = append_assoc tray.held xs ys in
-    let spare = drop-drop (length ys) (length xs) tray.spare ∙ ap (λ n. drop n tray.spare) (sym (length-append xs ys)) in
+    let spare =
+    drop-drop (length ys) (length xs) tray.spare ∙ ap (λ n. drop n tray.spare) (sym (length-append xs ys)) in
     λ i. record { held = held i; spare = spare i }
 
 -- bytes that fit are taken
-pub took : {X : Type 0} (bytes : List ℕ) (tray tray' : Contents) (r : Result X (ℕ × ℕ)) → length bytes ≤ length tray.spare → IsFilled (Ok bytes) tray tray' r → tray' ≡ gained tray bytes
+pub took : {X : Type 0} (bytes : List ℕ) (tray tray' : Contents) (r : Result X (ℕ × ℕ))
+    → length bytes ≤ length tray.spare → IsFilled (Ok bytes) tray tray' r → tray' ≡ gained tray bytes
 took bytes tray tray' (Ok _) fits p = p.1
 took bytes tray tray' (Err c) fits p = absurd (omega (arith, p.0))

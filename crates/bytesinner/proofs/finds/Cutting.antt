@@ -1,6 +1,5 @@
 -- The number of cuts, by what a search answers and by the rule of a cutter.
-use Rattle.std.proofs.Common.{◌≡◌, ℕ, zero, suc, ◌+◌, ◌<◌, ◌≤◌, leb, List, [], ◌∷◌, length, refl, sym, ap, ◌∙◌, subst}
-use Rattle.std.proofs.Common.{arith}
+use Rattle.std.proofs.Common.{◌≡◌, ℕ, zero, suc, ◌+◌, ◌<◌, ◌≤◌, leb, List, [], ◌∷◌, length, sym, ap, ◌∙◌, subst, arith}
 use Rattle.std.proofs.lemmas.List.{nil_from_length}
 use Rattle.std.proofs.lemmas.Bool.{le-leb, lt-leb, cond-true, cond-false, leb-false, cond_both}
 use Rattle.searchers.specs.Marks.{Span, CutTimes}
@@ -10,16 +9,20 @@ use Rattle.cuts.specs.Runs.{CutRule}
 use Rattle.cuts.proofs.Found.{cut_found, none_found}
 use Rattle.cuts.proofs.Greedy.{greedy_rule}
 use Rattle.cuts.proofs.Listed.{greedy_cuts}
-use Rattle.cuts.proofs.Reach.{to_the_end, length-marks_of}
+use Rattle.cuts.proofs.Reach.{to_the_end, length-marks}
 use Rattle.bytesinner.specs.Openings.{unbounded, opening_at}
 use Rattle.bytesinner.specs.finds.Counts.{times, count_of, CutUp, Number}
 use Rattle.anystr.specs.Places.{part}
 use Rattle.bytesinner.proofs.finds.Parts.{length_part}
 
 -- as many cuts are still to be made from a place on as marks are cut from there
-cuts-are : (n bs : List ℕ) (made place k : ℕ) → CutTimes (occurrence n bs) place k → length (cut_from (opening_at bs n unbounded) made place) ≡ k
-cuts-are n bs made place zero none = ap length (none_found (opening_at bs n unbounded) (occurrence-lawful n bs) made place none)
-cuts-are n bs made place (suc k) (s, e, least, rest) = ap length (cut_found (opening_at bs n unbounded) (occurrence-lawful n bs) made place s e refl least) ∙ ap suc (cuts-are n bs (suc made) e k rest)
+cuts-are : (n bs : List ℕ) (made place k : ℕ) → CutTimes (occurrence n bs) place k
+    → length (cut_from (opening_at bs n unbounded) made place) ≡ k
+cuts-are n bs made place zero none =
+    ap length (none_found (opening_at bs n unbounded) (occurrence-lawful n bs) made place none)
+cuts-are n bs made place (suc k) (s, e, least, rest) =
+    ap length (cut_found (opening_at bs n unbounded) (occurrence-lawful n bs) made place s e refl least)
+    ∙ ap suc (cuts-are n bs (suc made) e k rest)
 
 times-are : (n bs : List ℕ) (k : ℕ) → 0 < length n → CutTimes (occurrence n bs) 0 k → k ≡ times n bs
 times-are [] bs k some cut = absurd (omega arith)
@@ -35,15 +38,17 @@ cut_up n bs =
       tail = end.1;
       lie = end.3;
       rule = subst (λ (cut : List Span). CutRule (occurrence n bs) unbounded (length bs) cut) end.2 rule;
-      number = sym (ap length end.2 ∙ length-marks_of end.0);
+      number = sym (ap length end.2 ∙ length-marks end.0);
     }
 
 pub count-empty : (bs n : List ℕ) (a b : ℕ) → a ≤ b → length n ≡ 0 → length (part bs (a, b)) + 1 ≡ count_of bs n a b
 count-empty bs [] a b le none = omega (arith, cond-true (leb a b) (suc (length (part bs (a, b)))) 0 (le-leb a b le))
 count-empty bs (x ∷ n) a b le none = absurd (omega arith)
 
-pub count-part : (bs n : List ℕ) (a b k : ℕ) → a ≤ b → 0 < length n → CutTimes (occurrence n (part bs (a, b))) 0 k → k ≡ count_of bs n a b
-count-part bs n a b k le some cut = times-are n (part bs (a, b)) k some cut ∙ sym (cond-true (leb a b) (times n (part bs (a, b))) 0 (le-leb a b le))
+pub count-part : (bs n : List ℕ) (a b k : ℕ) → a ≤ b → 0 < length n → CutTimes (occurrence n (part bs (a, b))) 0 k
+    → k ≡ count_of bs n a b
+count-part bs n a b k le some cut =
+    times-are n (part bs (a, b)) k some cut ∙ sym (cond-true (leb a b) (times n (part bs (a, b))) 0 (le-leb a b le))
 
 -- the definition keeps the law
 number : (bs n : List ℕ) (a b : ℕ) → b ≤ length bs → Number bs n a b (count_of bs n a b)
@@ -53,9 +58,14 @@ number bs [] a b within = (
 )
 number bs (x ∷ n) a b within =
     let k = length (cut_from (opening_at (part bs (a, b)) (x ∷ n) unbounded) 0 0) in
-    let empty : b < a → 0 ≡ k = λ past. sym (ap (λ (p : List ℕ). length (cut_from (opening_at p (x ∷ n) unbounded) 0 0)) (nil_from_length (part bs (a, b)) (omega (arith, length_part bs a b within)))) in
+    let empty : b < a → 0 ≡ k =
+    λ past. sym
+    (ap (λ (p : List ℕ). length (cut_from (opening_at p (x ∷ n) unbounded) 0 0))
+    (nil_from_length (part bs (a, b)) (omega (arith, length_part bs a b within)))) in
     let P : ℕ → Type 0 = λ m. CutUp (x ∷ n) (part bs (a, b)) m in
-    cond_both (leb a b) k 0 P (λ _. cut_up (x ∷ n) (part bs (a, b))) (λ t. subst P (sym (empty (leb-false a b t))) (cut_up (x ∷ n) (part bs (a, b))))
+    cond_both (leb a b) k 0 P
+    (λ _. cut_up (x ∷ n) (part bs (a, b)))
+    (λ t. subst P (sym (empty (leb-false a b t))) (cut_up (x ∷ n) (part bs (a, b))))
 
 pub number_is : (bs n : List ℕ) (a b k : ℕ) → b ≤ length bs → k ≡ count_of bs n a b → Number bs n a b k
 number_is bs n a b k within is = subst (λ (m : ℕ). Number bs n a b m) (sym is) (number bs n a b within)

@@ -29,34 +29,43 @@ single-short (Err c) n e = cc
 sub-short : (s : Either (Bor (List ℕ)) ℤ) (n : List ℕ) → sub_of s ≡ Ok n → length n ≤ most_bytes
 sub-short (A bytes) n e = by (leb (length bytes.now) most_bytes) refl e
   where
-    by : (t : Bool) → leb (length bytes.now) most_bytes ≡ t → cond {A = Result (List ℕ) (ℕ × ℕ)} t (Ok bytes.now) (Err (6, 0)) ≡ Ok n → length n ≤ most_bytes
-    by true t e = let same : n ≡ bytes.now = cc in omega (arith, ap length same, leb-true (length bytes.now) most_bytes t)
+    by : (t : Bool) → leb (length bytes.now) most_bytes ≡ t
+        → cond {A = Result (List ℕ) (ℕ × ℕ)} t (Ok bytes.now) (Err (6, 0)) ≡ Ok n → length n ≤ most_bytes
+    by true t e =
+        let same : n ≡ bytes.now = cc in omega (arith, ap length same, leb-true (length bytes.now) most_bytes t)
     by false t e = cc
 sub-short (B number) n e = single-short (byte_of number) n e
 
 -- the needle and the offsets in an answer that is not refused
 read_back : (o : ByteInnerFindOptions) (len : ℕ) (n : List ℕ) (a b : ℕ) (s : Result (List ℕ) (ℕ × ℕ)) → sub_of o.sub ≡ s
-    → Ok (target n a b) ≡ for_needle (λ m. target m (start_of o.start len) (end_of o.end len)) s → (sub_of o.sub ≡ Ok n) × (a ≡ start_of o.start len) × (b ≡ end_of o.end len)
+    → Ok (target n a b) ≡ for_needle (λ m. target m (start_of o.start len) (end_of o.end len)) s
+    → (sub_of o.sub ≡ Ok n) × (a ≡ start_of o.start len) × (b ≡ end_of o.end len)
 read_back o len n a b (Ok m) is e =
     let all : target n a b ≡ target m (start_of o.start len) (end_of o.end len) = cc in
     (is ∙ ap Ok (ap (λ (v : Target). v.0) (sym all)), ap (λ (v : Target). v.1) all, ap (λ (v : Target). v.2) all)
 read_back o len n a b (Err c) is e = cc
 
 -- the needle and the offsets that are read from options, where the text has `len` bytes
-module _ (o : ByteInnerFindOptions) (bs needle : List ℕ) (len a b : ℕ) (e : Ok (target needle a b) ≡ answer_in target o len) (size : len ≡ length (concat (singles bs))) where
+module _ (o : ByteInnerFindOptions) (bs needle : List ℕ) (len a b : ℕ)
+    (e : Ok (target needle a b) ≡ answer_in target o len) (size : len ≡ length (concat (singles bs))) where
   from_options : (sub_of o.sub ≡ Ok needle) × (a ≡ start_of o.start (length bs)) × (b ≡ end_of o.end (length bs))
-  from_options = read_back o (length bs) needle a b (sub_of o.sub) refl (e ∙ ap (answer_in target o) (size ∙ ap length (concat-singles bs)))
+  from_options =
+      read_back o (length bs) needle a b (sub_of o.sub) refl
+      (e ∙ ap (answer_in target o) (size ∙ ap length (concat-singles bs)))
 
   pub offset-within : b ≤ length bs
   offset-within = omega (arith, from_options.2, end-within o.end (length bs))
 
 -- the text that is made of a needle's bytes has them
-pub meant : (o : ByteInnerFindOptions) (text : Bytes) (stretch : Stretch) (needle given made : List ℕ) (len : ℕ) → stretch.text ≡ text → Ok (target needle stretch.range.start stretch.range.end) ≡ answer_in target o len
-    → len ≡ length (concat (singles text.bytes.now)) → given ≡ needle → (length given ≤ most_bytes → singles made ≡ singles given) → Meant o text stretch made
+pub meant : (o : ByteInnerFindOptions) (text : Bytes) (stretch : Stretch) (needle given made : List ℕ) (len : ℕ)
+    → stretch.text ≡ text → Ok (target needle stretch.range.start stretch.range.end) ≡ answer_in target o len
+    → len ≡ length (concat (singles text.bytes.now)) → given ≡ needle
+    → (length given ≤ most_bytes → singles made ≡ singles given) → Meant o text stretch made
 meant o text stretch needle given made len whole e size is new =
     let m = from_options o text.bytes.now needle len stretch.range.start stretch.range.end e size in
     let short : length given ≤ most_bytes = omega (arith, ap length is, sub-short o.sub needle m.0) in
-    let same : needle ≡ made = sym (sym (concat-singles made) ∙ (ap concat (new short) ∙ (concat-singles given ∙ is))) in
+    let same : needle ≡ made =
+    sym (sym (concat-singles made) ∙ (ap concat (new short) ∙ (concat-singles given ∙ is))) in
     record { whole = whole; sub = m.0 ∙ ap Ok same; start = m.1; end = m.2 }
 
 -- an answer by its rule, and a rule by its answer
@@ -91,7 +100,9 @@ module _ {X : Type 0} (f : List ℕ → List ℕ → ℕ → ℕ → X) (rule : 
       by (Err c) (Err d) e = cc
 
 pub some : (n : List ℕ) → false ≡ eqb (length (concat (singles n))) 0 → 0 < length n
-some n e = let other = eqb-false (length (concat (singles n))) 0 (sym e) in let same = ap length (concat-singles n) in omega arith
+some n e =
+    let other = eqb-false (length (concat (singles n))) 0 (sym e) in
+    let same = ap length (concat-singles n) in omega arith
 
 pub none : (n : List ℕ) → true ≡ eqb (length (concat (singles n))) 0 → length n ≡ 0
 none n e = sym (ap length (concat-singles n)) ∙ eqb-true (length (concat (singles n))) 0 (sym e)

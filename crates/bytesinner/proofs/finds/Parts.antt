@@ -13,10 +13,13 @@ length_part bs a b within = omega (arith, length-take (b - a) (drop a bs), lengt
 pub drop-part : (bs : List ℕ) (a b k : ℕ) → a + k ≤ b → drop k (part bs (a, b)) ≡ part bs (a + k, b)
 drop-part bs a b k le =
     let e : b - a ≡ k + (b - (a + k)) = omega arith in
-    ap (λ m. drop k (take m (drop a bs))) e ∙ (drop-take k (b - (a + k)) (drop a bs) ∙ ap (take (b - (a + k))) (drop-drop k a bs))
+    ap (λ m. drop k (take m (drop a bs))) e
+    ∙ (drop-take k (b - (a + k)) (drop a bs) ∙ ap (take (b - (a + k))) (drop-drop k a bs))
 
 -- the bytes of a part that was cut out
-pub got_part : (bs ps : List ℕ) (a b : ℕ) → a ≤ b → b ≤ length bs → (Cut (singles bs) a b → Part (singles bs) (singles ps) a b) → concat (singles ps) ≡ part bs (a, b)
+pub got_part : (bs ps : List ℕ) (a b : ℕ) → a ≤ b → b ≤ length bs
+    → (Cut (singles bs) a b → Part (singles bs) (singles ps) a b) → concat (singles ps) ≡ part bs (a, b)
 got_part bs ps a b order within given =
-    let cut : Cut (singles bs) a b = record { order = order; start = boundary bs a (omega arith); end = boundary bs b within } in
+    let cut : Cut (singles bs) a b =
+    record { order = order; start = boundary bs a (omega arith); end = boundary bs b within } in
     concat-part (singles bs) (singles ps) a b (given cut) ∙ ap (λ l. part l (a, b)) (concat-singles bs)

@@ -1,6 +1,5 @@
 -- Where a needle stands, by the definitions and by what a search of a part answers.
-use Rattle.std.proofs.Common.{◌≡◌, ℕ, suc, ◌+◌, ◌-◌, ◌<◌, ◌≤◌, Bool, true, false, cond, IsTrue, leb, List, [], ◌∷◌}
-use Rattle.std.proofs.Common.{length}
+use Rattle.std.proofs.Common.{◌≡◌, ℕ, suc, ◌+◌, ◌-◌, ◌<◌, ◌≤◌, Bool, true, false, cond, IsTrue, leb, List, [], ◌∷◌, length}
 use Rattle.std.proofs.Common.{take, drop, Some, None, Option, sym, refl, ap, ◌∙◌, ⊎_elim, le_refl, arith, length-take}
 use Rattle.std.specs.Option.{option_or}
 use Rattle.std.proofs.lemmas.List.{take-take, nil_from_length}
@@ -19,7 +18,8 @@ module _ (bs n : List ℕ) (b : ℕ) (within : b ≤ length bs) where
   stands : (a p : ℕ) → a ≤ p → p ≤ b → begins_with n (part bs (p, b)) ≡ true → Stands bs n a b p
   stands a p from to h =
       let t = taken n (part bs (p, b)) h in
-      let fits : length n ≤ b - p = omega (arith, ap length t, length-take (length n) (part bs (p, b)), length_part bs p b within) in
+      let fits : length n ≤ b - p =
+      omega (arith, ap length t, length-take (length n) (part bs (p, b)), length_part bs p b within) in
       record { after = from; ahead = omega arith; occurs = sym (take-take (length n) (b - p) (drop p bs) fits) ∙ t }
 
   stood : (a p : ℕ) → Stands bs n a b p → begins_with n (part bs (p, b)) ≡ true
@@ -35,20 +35,27 @@ module _ (bs n : List ℕ) (b : ℕ) (within : b ≤ length bs) where
   further a p other s = record { after = omega (arith, s.after); ahead = s.ahead; occurs = s.occurs }
 
   not_here : (a p : ℕ) → begins_with n (part bs (a, b)) ≡ false → Stands bs n a b p → a ≡ p → ⊥
-  not_here a p fails s e = both_ways (begins_with n (part bs (a, b))) fails (ap (λ q. begins_with n (part bs (q, b))) e ∙ stood a p s)
+  not_here a p fails s e =
+      both_ways (begins_with n (part bs (a, b))) fails (ap (λ q. begins_with n (part bs (q, b))) e ∙ stood a p s)
 
   -- the first place, where r is the first one from suc a on
-  turn : (a : ℕ) → a ≤ b → (r : Option ℕ) → FirstPlace bs n (suc a) b r → (t : Bool) → begins_with n (part bs (a, b)) ≡ t → FirstPlace bs n a b (option_or (cond t (Some a) None) r)
+  turn : (a : ℕ) → a ≤ b → (r : Option ℕ) → FirstPlace bs n (suc a) b r → (t : Bool)
+      → begins_with n (part bs (a, b)) ≡ t → FirstPlace bs n a b (option_or (cond t (Some a) None) r)
   turn a le r f true is = (stands a a (le_refl a) le is, λ q s. s.after)
   turn a le None f false is = λ p s. f p (further a p (not_here a p is s) s)
   turn a le (Some p) f false is = (wider a p f.0, λ q s. f.1 q (further a q (not_here a q is s) s))
 
   -- the last place, where r is the last one from suc a on
-  turn_back : (a : ℕ) → a ≤ b → (r : Option ℕ) → LastPlace bs n (suc a) b r → (t : Bool) → begins_with n (part bs (a, b)) ≡ t → LastPlace bs n a b (option_or r (cond t (Some a) None))
-  turn_back a le (Some p) f t is =
-      (wider a p f.0, λ q s. ⊎_elim (λ e. omega (arith, f.0.after)) (λ other. f.1 q (further a q other s)) (cases_eq a q))
-  turn_back a le None f true is =
-      (stands a a (le_refl a) le is, λ q s. ⊎_elim (λ e. omega arith) (λ other. absurd (f q (further a q other s))) (cases_eq a q))
+  turn_back : (a : ℕ) → a ≤ b → (r : Option ℕ) → LastPlace bs n (suc a) b r → (t : Bool)
+      → begins_with n (part bs (a, b)) ≡ t → LastPlace bs n a b (option_or r (cond t (Some a) None))
+  turn_back a le (Some p) f t is = (
+    wider a p f.0,
+    λ q s. ⊎_elim (λ e. omega (arith, f.0.after)) (λ other. f.1 q (further a q other s)) (cases_eq a q),
+  )
+  turn_back a le None f true is = (
+    stands a a (le_refl a) le is,
+    λ q s. ⊎_elim (λ e. omega arith) (λ other. absurd (f q (further a q other s))) (cases_eq a q),
+  )
   turn_back a le None f false is = λ p s. f p (further a p (not_here a p is s) s)
 
   nowhere-further : (a : ℕ) → b < a → Nowhere bs n a b
@@ -64,10 +71,13 @@ module _ (bs n : List ℕ) (b : ℕ) (within : b ≤ length bs) where
   first_place-from [] a le e =
       let past : b < suc a = omega (arith, ap length e, length_part bs a b within) in
       let both = turn a le None (nowhere-further (suc a) past) in
-      cond_both (begins_with n []) (Some a) None (FirstPlace bs n a b) (λ t. both true (ap (begins_with n) (sym e) ∙ t)) (λ t. both false (ap (begins_with n) (sym e) ∙ t))
+      cond_both (begins_with n []) (Some a) None (FirstPlace bs n a b)
+      (λ t. both true (ap (begins_with n) (sym e) ∙ t))
+      (λ t. both false (ap (begins_with n) (sym e) ∙ t))
   first_place-from (x ∷ xs) a le e =
       let t = tail x xs a e in
-      turn a le (first_place n xs (suc a)) (first_place-from xs (suc a) t.0 t.1) (begins_with n (x ∷ xs)) (ap (begins_with n) (sym e))
+      turn a le (first_place n xs (suc a)) (first_place-from xs (suc a) t.0 t.1) (begins_with n (x ∷ xs))
+      (ap (begins_with n) (sym e))
 
   last_place-from : (xs : List ℕ) (a : ℕ) → a ≤ b → xs ≡ part bs (a, b) → LastPlace bs n a b (last_place n xs a)
   last_place-from [] a le e =
@@ -75,14 +85,21 @@ module _ (bs n : List ℕ) (b : ℕ) (within : b ≤ length bs) where
       turn_back a le None (nowhere-further (suc a) past) (begins_with n []) (ap (begins_with n) (sym e))
   last_place-from (x ∷ xs) a le e =
       let t = tail x xs a e in
-      turn_back a le (last_place n xs (suc a)) (last_place-from xs (suc a) t.0 t.1) (begins_with n (x ∷ xs)) (ap (begins_with n) (sym e))
+      turn_back a le (last_place n xs (suc a)) (last_place-from xs (suc a) t.0 t.1) (begins_with n (x ∷ xs))
+      (ap (begins_with n) (sym e))
 
   -- the definitions keep the laws
   find_first : (a : ℕ) → FirstPlace bs n a b (find_of bs n a b)
-  find_first a = cond_both (leb a b) _ _ (FirstPlace bs n a b) (λ t. first_place-from (part bs (a, b)) a (leb-true a b t) refl) (λ t. nowhere-further a (leb-false a b t))
+  find_first a =
+      cond_both (leb a b) _ _ (FirstPlace bs n a b)
+      (λ t. first_place-from (part bs (a, b)) a (leb-true a b t) refl)
+      (λ t. nowhere-further a (leb-false a b t))
 
   rfind_last : (a : ℕ) → LastPlace bs n a b (rfind_of bs n a b)
-  rfind_last a = cond_both (leb a b) _ _ (LastPlace bs n a b) (λ t. last_place-from (part bs (a, b)) a (leb-true a b t) refl) (λ t. nowhere-further a (leb-false a b t))
+  rfind_last a =
+      cond_both (leb a b) _ _ (LastPlace bs n a b)
+      (λ t. last_place-from (part bs (a, b)) a (leb-true a b t) refl)
+      (λ t. nowhere-further a (leb-false a b t))
 
   -- and only their values do
   pub first-is : (a : ℕ) (r : Option ℕ) → FirstPlace bs n a b r → r ≡ find_of bs n a b
@@ -121,14 +138,16 @@ module _ (bs n : List ℕ) (b : ℕ) (within : b ≤ length bs) where
     marked p some s =
         let back : a + (p - a) ≡ p = omega (arith, s.after) in
         let begins : begins_with n (drop (p - a) (part bs (a, b))) ≡ true =
-        ap (begins_with n) (drop-part bs a b (p - a) (omega (arith, s.after, s.ahead)) ∙ ap (λ q. part bs (q, b)) back) ∙ stood a p s in
+        ap (begins_with n) (drop-part bs a b (p - a) (omega (arith, s.after, s.ahead)) ∙ ap (λ q. part bs (q, b)) back)
+        ∙ stood a p s in
         (and_from _ _ (lt-ltb 0 (length n) some) (and_from _ _ (eq-eqb _ _ refl) begins))
 
     -- a mark of the part is a place
     at_mark : (s e : ℕ) → IsTrue (occurrence n (part bs (a, b)) s e) → Stands bs n a b (a + s)
     at_mark s e m =
         let o = occurrence-is n (part bs (a, b)) s e m in
-        let fits : a + s ≤ b = omega (arith, occurs-within (part bs (a, b)) n s o.nonempty o.occurs, length_part bs a b within) in
+        let fits : a + s ≤ b =
+        omega (arith, occurs-within (part bs (a, b)) n s o.nonempty o.occurs, length_part bs a b within) in
         stands a (a + s) (omega arith) fits (ap (begins_with n) (sym (drop-part bs a b s fits)) ∙ o.begins)
 
     pub found : (s e : ℕ) → Least (occurrence n (part bs (a, b))) 0 s e → FirstPlace bs n a b (Some (a + s))
@@ -136,10 +155,18 @@ module _ (bs n : List ℕ) (b : ℕ) (within : b ≤ length bs) where
         let o = occurrence-is n (part bs (a, b)) s e l.is in
         (at_mark s e l.is, λ q t. omega (arith, l.least (q - a) _ (omega arith) (marked q o.nonempty t), t.after))
 
-    pub found_back : (s e : ℕ) → Greatest (occurrence n (part bs (a, b))) (b - a) s e → LastPlace bs n a b (Some (a + s))
+    pub found_back : (s e : ℕ) → Greatest (occurrence n (part bs (a, b))) (b - a) s e
+        → LastPlace bs n a b (Some (a + s))
     found_back s e l =
-        let o = occurrence-is n (part bs (a, b)) s e l.is in
-        (at_mark s e l.is, λ q t. omega (arith, l.greatest (q - a) _ (omega (arith, t.after, t.ahead)) (marked q o.nonempty t), t.after, o.end))
+        let o = occurrence-is n (part bs (a, b)) s e l.is in (
+          at_mark s e l.is,
+          λ q t. omega (
+            arith,
+            l.greatest (q - a) _ (omega (arith, t.after, t.ahead)) (marked q o.nonempty t),
+            t.after,
+            o.end,
+          ),
+        )
 
     pub not_found : 0 < length n → NoneFrom (occurrence n (part bs (a, b))) 0 → Nowhere bs n a b
     not_found some none p s = none (p - a) _ (omega arith) (marked p some s)

@@ -10,6 +10,7 @@ passed P code (Ok x) ok pass = pass
 passed P code (Err d) ok pass = cc
 
 -- a check that was refused, with what is known of the error that stands for its refusal
-pub refused : {X : Type 0} (P Q : Type 0) (code : ℕ × ℕ) (r : Result X Refusal) (e : Refusal) → PassesIf P code r → MatchResult r (λ x. Err e ≡ Ok x) (λ _. Q) → (P → ⊥) × Q
+pub refused : {X : Type 0} (P Q : Type 0) (code : ℕ × ℕ) (r : Result X Refusal) (e : Refusal) → PassesIf P code r
+    → MatchResult r (λ x. Err e ≡ Ok x) (λ _. Q) → (P → ⊥) × Q
 refused P Q code (Ok x) e pass known = let z : Err e ≡ Ok x = known in cc
 refused P Q code (Err d) e pass known = (pass.0, known)

@@ -45,10 +45,12 @@ module _ (es : List (List ℕ)) (places : List Place) (i : ℕ) (within : i < le
   pub bad-here : (good → ⊥) → first_bad es i (stretches (drop i places)) ≡ Some i
   bad-here bad = rw here (stops es i (stretch place) past bad)
 
-  pub bare_more : good → bare (concat es) (stretches (drop i places)) ≡ (place.end - place.start) + bare (concat es) past
+  pub bare_more : good
+      → bare (concat es) (stretches (drop i places)) ≡ (place.end - place.start) + bare (concat es) past
   bare_more cut =
       let p = part (concat es) (stretch place) in
-      rw here (omega (arith, length-append p (concat (map (part (concat es)) past)), part-long es place.start place.end cut))
+      rw here
+      (omega (arith, length-append p (concat (map (part (concat es)) past)), part-long es place.start place.end cut))
 
 -- parts with the separator ahead of each
 abbrev behind : List ℕ → List (List ℕ) → List ℕ
@@ -67,37 +69,63 @@ first-ahead sep x (y ∷ xs) = ap (λ r. x ++ (sep ++ r)) (first-ahead sep y xs)
 behind_size : (sep : List ℕ) (xs : List (List ℕ)) → length (behind sep xs) ≡ length (concat xs) + length xs * length sep
 behind_size sep [] = omega (arith, zero-mul (length sep))
 behind_size sep (x ∷ xs) =
-    omega (arith, behind_size sep xs, length-append sep (x ++ behind sep xs), length-append x (behind sep xs), length-append x (concat xs), suc-mul (length xs) (length sep))
+    omega (
+      arith,
+      behind_size sep xs,
+      length-append sep (x ++ behind sep xs),
+      length-append x (behind sep xs),
+      length-append x (concat xs),
+      suc-mul (length xs) (length sep),
+    )
 
 -- a separator fewer than there are parts
-pub join_size : (sep : List ℕ) (xs : List (List ℕ)) → length (with_between sep xs) ≡ length (concat xs) + (length xs - 1) * length sep
+pub join_size : (sep : List ℕ) (xs : List (List ℕ))
+    → length (with_between sep xs) ≡ length (concat xs) + (length xs - 1) * length sep
 join_size sep [] = omega (arith, zero-mul (length sep))
 join_size sep (x ∷ xs) =
     let count : length (x ∷ xs) - 1 ≡ length xs = omega arith in
-    rw (first-ahead, count) (omega (arith, behind_size sep xs, length-append x (behind sep xs), length-append x (concat xs)))
+    rw (first-ahead, count)
+    (omega (arith, behind_size sep xs, length-append x (behind sep xs), length-append x (concat xs)))
 
 bare_fits : (bytes : List ℕ) (ps : List (ℕ × ℕ)) → bare bytes ps ≤ length ps * length bytes
 bare_fits bytes [] = omega (arith, zero-mul (length bytes))
 bare_fits bytes (p ∷ ps) =
-    omega (arith, bare_fits bytes ps, length-append (part bytes p) (concat (map (part bytes) ps)), length-take (p.1 - p.0) (drop p.0 bytes), length-drop p.0 bytes, suc-mul (length ps) (length bytes))
+    omega (
+      arith,
+      bare_fits bytes ps,
+      length-append (part bytes p) (concat (map (part bytes) ps)),
+      length-take (p.1 - p.0) (drop p.0 bytes),
+      length-drop p.0 bytes,
+      suc-mul (length ps) (length bytes),
+    )
 
 module _ (sep bytes : List ℕ) (places : List Place) where
   -- the sum that the code forms
-  pub join-sum : length (join_parts sep bytes (stretches places)) ≡ (length places - 1) * length sep + bare bytes (stretches places)
+  pub join-sum : length (join_parts sep bytes (stretches places))
+      ≡ (length places - 1) * length sep + bare bytes (stretches places)
   join-sum =
       let count : length (map (part bytes) (stretches places)) ≡ length places = simp length-map in
       omega (arith, join_size sep (map (part bytes) (stretches places)), ap (λ n. (n - 1) * length sep) count)
 
   -- the bytes of a join fit 64 bits
-  pub join_fits : length sep ≤ most_bytes → length bytes ≤ most_bytes → length places ≤ most_places → length (join_parts sep bytes (stretches places)) < 2 ^ 63
+  pub join_fits : length sep ≤ most_bytes → length bytes ≤ most_bytes → length places ≤ most_places
+      → length (join_parts sep bytes (stretches places)) < 2 ^ 63
   join_fits short few some =
-      let parts : length places * length bytes ≤ most_places * most_bytes = mul-le-mul {n₂ = most_places} {m₂ = most_bytes} some few in
-      let gaps : (length places - 1) * length sep ≤ most_places * most_bytes = mul-le-mul {n₂ = most_places} {m₂ = most_bytes} (omega arith) short in
-      omega (arith, join-sum, bare_fits bytes (stretches places), ap (λ n. n * length bytes) (length-map places stretch))
+      let parts : length places * length bytes ≤ most_places * most_bytes =
+      mul-le-mul {n₂ = most_places} {m₂ = most_bytes} some few in
+      let gaps : (length places - 1) * length sep ≤ most_places * most_bytes =
+      mul-le-mul {n₂ = most_places} {m₂ = most_bytes} (omega arith) short in
+      omega (
+        arith,
+        join-sum,
+        bare_fits bytes (stretches places),
+        ap (λ n. n * length bytes) (length-map places stretch),
+      )
 
 -- a push of what comes next is taken
 pub took_next : {X : Type 0} (bytes rest : List ℕ) {before : List ℕ} {tray full : Contents} (tray' : Contents)
-    (r : Result X (ℕ × ℕ)) → before ≡ bytes ++ rest → Pouring tray before full → IsFilled (Ok bytes) tray tray' r → Pouring tray' rest full
+    (r : Result X (ℕ × ℕ)) → before ≡ bytes ++ rest → Pouring tray before full → IsFilled
+    (Ok bytes) tray tray' r → Pouring tray' rest full
 took_next bytes rest {tray = tray} {full = full} tray' r split p push =
     let so_far = rw split at p in
     let fits : length bytes ≤ length tray.spare = omega (arith, so_far.room, length-append bytes rest) in

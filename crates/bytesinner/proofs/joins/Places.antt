@@ -15,18 +15,23 @@ cut_from es p h =
     record { order = leb-true _ _ t.0; start = boundary_from es p.0 u.0; end = boundary_from es p.1 u.1 }
 
 pub cut-true : (es : List (List ℕ)) (p : ℕ × ℕ) → Cut es p.0 p.1 → can_cut es p ≡ true
-cut-true es p c = and_from _ _ (le-leb _ _ c.order) (and_from _ _ (boundary_true es p.0 c.start) (boundary_true es p.1 c.end))
+cut-true es p c =
+    and_from _ _ (le-leb _ _ c.order) (and_from _ _ (boundary_true es p.0 c.start) (boundary_true es p.1 c.end))
 
 -- a good place is passed over
-pub passes : (es : List (List ℕ)) (at : ℕ) (p : ℕ × ℕ) (ps : List (ℕ × ℕ)) → Cut es p.0 p.1 → first_bad es at (p ∷ ps) ≡ first_bad es (suc at) ps
+pub passes : (es : List (List ℕ)) (at : ℕ) (p : ℕ × ℕ) (ps : List (ℕ × ℕ)) → Cut es p.0 p.1
+    → first_bad es at (p ∷ ps) ≡ first_bad es (suc at) ps
 passes es at p ps c = cond-true _ _ _ (cut-true es p c)
 
 -- a bad one is the first
-pub stops : (es : List (List ℕ)) (at : ℕ) (p : ℕ × ℕ) (ps : List (ℕ × ℕ)) → (Cut es p.0 p.1 → ⊥) → first_bad es at (p ∷ ps) ≡ Some at
-stops es at p ps bad = ⊎_elim (λ t. absurd (bad (cut_from es p t))) (λ f. cond-false _ _ _ f) (cases_Bool (can_cut es p))
+pub stops : (es : List (List ℕ)) (at : ℕ) (p : ℕ × ℕ) (ps : List (ℕ × ℕ)) → (Cut es p.0 p.1 → ⊥)
+    → first_bad es at (p ∷ ps) ≡ Some at
+stops es at p ps bad =
+    ⊎_elim (λ t. absurd (bad (cut_from es p t))) (λ f. cond-false _ _ _ f) (cases_Bool (can_cut es p))
 
 -- where none is bad, the first is good
-pub none-bad : (es : List (List ℕ)) (at : ℕ) (p : ℕ × ℕ) (ps : List (ℕ × ℕ)) → first_bad es at (p ∷ ps) ≡ None → Cut es p.0 p.1
+pub none-bad : (es : List (List ℕ)) (at : ℕ) (p : ℕ × ℕ) (ps : List (ℕ × ℕ)) → first_bad es at (p ∷ ps) ≡ None
+    → Cut es p.0 p.1
 none-bad es at p ps h = ⊎_elim
     (λ t. cut_from es p t)
     (λ f. let e : Some at ≡ None = sym (cond-false _ _ _ f) ∙ h in let z : ◌≡◌ {A = ℕ} 0 1 = cc in absurd (omega arith))
@@ -34,4 +39,12 @@ none-bad es at p ps h = ⊎_elim
 
 -- the bytes of a place that can be cut out
 pub part-long : (es : List (List ℕ)) (a e : ℕ) → Cut es a e → length (part (concat es) (a, e)) ≡ e - a
-part-long es a e c = omega (arith, c.order, offset-within es c.end.0, c.end.1, length-take (e - a) (drop a (concat es)), length-drop a (concat es))
+part-long es a e c =
+    omega (
+      arith,
+      c.order,
+      offset-within es c.end.0,
+      c.end.1,
+      length-take (e - a) (drop a (concat es)),
+      length-drop a (concat es),
+    )

@@ -38,8 +38,11 @@ module _ (es : List (List ℕ)) (to : List ℕ) (bound : ℤ) (n len gap : ℕ)
   pub spread_text-sum : len + n * gap ≡ length (spread_text to bound 0 es)
   spread_text-sum = rw (count, bytes, each) (sym (spread_text-long es to bound))
 
-  pub spread_text-fits : Filled es → length (concat es) ≤ most_bytes → length to ≤ most_bytes → len + n * gap ≤ most_result
-  spread_text-fits filled few some = rw spread_text-sum (short (spread_text to bound 0 es) (concat es) to few some (spread_text-within es to bound filled))
+  pub spread_text-fits : Filled es → length (concat es) ≤ most_bytes → length to ≤ most_bytes
+      → len + n * gap ≤ most_result
+  spread_text-fits filled few some =
+      rw spread_text-sum
+      (short (spread_text to bound 0 es) (concat es) to few some (spread_text-within es to bound filled))
 
 -- what is cut out is within the limits
 pub cut_short : (es : List (List ℕ)) (from to : List ℕ) (bound : ℤ) → length (concat es) ≤ most_bytes

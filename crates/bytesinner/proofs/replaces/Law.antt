@@ -5,6 +5,7 @@ use Rattle.std.specs.List.{concat}
 use Rattle.std.proofs.lemmas.Bool.{cond-true, cond-false, eq-eqb, ne_eqb, le-leb, cases_eq}
 use Rattle.anystr.specs.Elements.{Filled}
 use Rattle.anystr.specs.Limits.{most_bytes}
+use Rattle.anystr.proofs.Walking.{count-within}
 use Rattle.searchers.specs.substring.Occurrences.{occurrence, occurrence-lawful}
 use Rattle.cuts.specs.Cuts.{all_marks, cut_from, poured}
 use Rattle.cuts.proofs.Sizes.{cuts_within, poured_within}
@@ -14,7 +15,6 @@ use Rattle.bytesinner.specs.replaces.Replaces.{if_short, ReplaceLaw}
 use Rattle.bytesinner.proofs.replaces.Spreading.{spread_text-with_copies, length-with_copies, spread_none}
 use Rattle.bytesinner.proofs.replaces.Spreading.{copy_count-few}
 use Rattle.bytesinner.proofs.replaces.Cutting.{no_cuts, poured-joined}
-use Rattle.bytesinner.proofs.replaces.Walking.{count-within}
 
 at-marks : (es : List (List ℕ)) (from to : List ℕ) (bound : ℤ) → (length from ≡ 0 → ⊥)
     → replaced_text es from to bound ≡ poured_text es from to bound
@@ -29,7 +29,8 @@ pub spread_text-long : (es : List (List ℕ)) (to : List ℕ) (bound : ℤ)
     → length (spread_text to bound 0 es) ≡ length (concat es) + copy_count (length es) bound * length to
 spread_text-long es to bound =
     let n = length es in
-    ap length (spread_text-with_copies to bound es) ∙ length-with_copies to (copy_count n bound) es (copy_count-few n bound)
+    ap length (spread_text-with_copies to bound es)
+    ∙ length-with_copies to (copy_count n bound) es (copy_count-few n bound)
 
 pub spread_text-within : (es : List (List ℕ)) (to : List ℕ) (bound : ℤ) → Filled es
     → length (spread_text to bound 0 es) ≤ length (concat es) + suc (length (concat es)) * length to

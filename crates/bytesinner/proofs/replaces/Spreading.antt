@@ -50,7 +50,8 @@ module _ (to : List ℕ) (count : ℕ) where
   -- one copy more, and the element behind it
   pub spread_text-more : (e : List ℕ) (es : List (List ℕ)) (made : ℕ) → made < count
       → spread_text to (pos count) made (e ∷ es) ≡ to ++ (e ++ spread_text to (pos count) (suc made) es)
-  spread_text-more e es made lt = ap (λ t. cond t to [] ++ (e ++ spread_text to (pos count) (suc made) es)) (lt-ltb made count lt)
+  spread_text-more e es made lt =
+      ap (λ t. cond t to [] ++ (e ++ spread_text to (pos count) (suc made) es)) (lt-ltb made count lt)
 
   -- the copy at the end
   pub spread_text-last : (made : ℕ) → made < count → spread_text to (pos count) made [] ≡ to
@@ -76,7 +77,8 @@ module _ (to : List ℕ) where
   spread_text-placed count (suc k) [] made all = spread_text-last to count made (omega arith) ∙ sym (with_copies-last k)
   spread_text-placed count (suc k) (e ∷ es) made all =
       let rest = spread_text-placed count k es (suc made) (omega arith) in
-      spread_text-more to count e es made (omega arith) ∙ (ap (λ r. to ++ (e ++ r)) rest ∙ sym (with_copies-more k e es))
+      spread_text-more to count e es made (omega arith)
+      ∙ (ap (λ r. to ++ (e ++ r)) rest ∙ sym (with_copies-more k e es))
 
   -- each copy stands in its place
   pub spread_text-with_copies : (bound : ℤ) (es : List (List ℕ))

@@ -26,19 +26,25 @@ length-from_start [] = refl
 length-from_start (r ∷ rs) = refl
 
 -- the last place that is written goes on to `len`
-set_end : (list : List Place) (a len : ℕ) (d : Place) → a < length list → stretches (take (suc a) (set list a (record { start = (get_or list a d).start; end = len }))) ≡ to_end len (stretches (take (suc a) list))
+set_end : (list : List Place) (a len : ℕ) (d : Place) → a < length list
+    → stretches (take (suc a) (set list a (record { start = (get_or list a d).start; end = len })))
+    ≡ to_end len (stretches (take (suc a) list))
 set_end [] a len d lt = absurd (omega arith)
 set_end (x ∷ xs) zero len d lt = refl
 set_end (x ∷ []) (suc a) len d lt = absurd (omega arith)
-set_end (x ∷ y ∷ ys) (suc a) len d lt = ap {B = List Span} (λ rs. (x.start, x.end) ∷ rs) (set_end (y ∷ ys) a len d (omega arith))
+set_end (x ∷ y ∷ ys) (suc a) len d lt =
+    ap {B = List Span} (λ rs. (x.start, x.end) ∷ rs) (set_end (y ∷ ys) a len d (omega arith))
 
 -- the first place begins at 0
-set_start : (list : List Place) (a : ℕ) (d : Place) → 0 < length list → stretches (take (suc a) (set list 0 (record { start = 0; end = (get_or list 0 d).end }))) ≡ from_start (stretches (take (suc a) list))
+set_start : (list : List Place) (a : ℕ) (d : Place) → 0 < length list
+    → stretches (take (suc a) (set list 0 (record { start = 0; end = (get_or list 0 d).end })))
+    ≡ from_start (stretches (take (suc a) list))
 set_start [] a d lt = absurd (omega arith)
 set_start (x ∷ xs) a d lt = refl
 
 -- a list whose first entries were written from another list of stretches
-lists : (ps : List Span) (list list' : List Place) (n : ℕ) → n ≡ length ps → n ≤ length list → stretches (take n list') ≡ ps → drop n list' ≡ drop n list → Lists (Ok ps) list list' (Ok n)
+lists : (ps : List Span) (list list' : List Place) (n : ℕ) → n ≡ length ps → n ≤ length list
+    → stretches (take n list') ≡ ps → drop n list' ≡ drop n list → Lists (Ok ps) list list' (Ok n)
 lists ps list list' n is fits written others = (is, omega arith, written, others)
 
 -- the same by what was written, for a number of pieces that came
@@ -63,8 +69,10 @@ pub record Wanted (rs : List Span) (bound : ℤ) (total a m : ℕ) : Type 0 wher
   pub is : m ≡ min total (a + 1)
 
 -- as the calls count them
-pub wanted : {rs : List Span} {bound : ℤ} {total a m : ℕ} → total ≡ length rs → SFits w64 bound → a ≡ lone_count total (to_z w64 (of_z w64 bound)) → m ≡ min total (a + 1) → Wanted rs bound total a m
-wanted {total = total} t fits a m = record { total_is = t; alone_is = a ∙ ap (lone_count total) (to_z-of_z w64 _ fits); is = m }
+pub wanted : {rs : List Span} {bound : ℤ} {total a m : ℕ} → total ≡ length rs → SFits w64 bound
+    → a ≡ lone_count total (to_z w64 (of_z w64 bound)) → m ≡ min total (a + 1) → Wanted rs bound total a m
+wanted {total = total} t fits a m =
+    record { total_is = t; alone_is = a ∙ ap (lone_count total) (to_z-of_z w64 _ fits); is = m }
 
 -- the room that was given in a list
 pub record Given (m n : ℕ) (list : List Place) : Type 0 where
@@ -72,18 +80,23 @@ pub record Given (m n : ℕ) (list : List Place) : Type 0 where
   pub fits : m ≤ length list
 
 -- a call that passes gives it
-pub given : {m n : ℕ} (list : List Place) → ◌≡◌ {A = Result ℕ (ℕ × ℕ)} (Ok n) (if nat_le m (length list) then Ok m else Err (7, m)) → Given m n list
+pub given : {m n : ℕ} (list : List Place)
+    → ◌≡◌ {A = Result ℕ (ℕ × ℕ)} (Ok n) (if nat_le m (length list) then Ok m else Err (7, m)) → Given m n list
 given list is = record { is = grind arith; fits = grind arith }
 
 -- what was written into the front of a list was written into the list
-pub filled-front : {xs ys : List Span} {m n : ℕ} {list part : List Place} → Given m n list → xs ≡ ys → length part ≡ length (take n list) → Filled (take (length (take n list)) xs) (take n list) part → Filled (take n ys) list (part ++ drop n list)
+pub filled-front : {xs ys : List Span} {m n : ℕ} {list part : List Place} → Given m n list → xs ≡ ys
+    → length part ≡ length (take n list) → Filled (take (length (take n list)) xs) (take n list) part
+    → Filled (take n ys) list (part ++ drop n list)
 filled-front {xs} {ys} {m} {n} {list} {part} room same l f =
     let t : length (take n list) ≡ n = length-take n list ∙ omega (arith, room.is, room.fits) in
     let ps : List Span = take (length (take n list)) xs in
     let few : length ps ≤ length part = omega (arith, length-take (length (take n list)) xs) in
     let whole : Filled ps list (part ++ drop n list) = record {
       written = ap stretches (take-append-le (length ps) part (drop n list) few) ∙ f.written;
-      others = drop-append-le (length ps) part (drop n list) few ∙ ap (λ (ys : List Place). ys ++ drop n list) f.others ∙ sym (drop-append-le (length ps) (take n list) (drop n list) (omega arith))
+      others =
+          drop-append-le (length ps) part (drop n list) few ∙ ap (λ (ys : List Place). ys ++ drop n list) f.others
+          ∙ sym (drop-append-le (length ps) (take n list) (drop n list) (omega arith))
           ∙ ap (drop (length ps)) (take-append-drop n list);
     } in
     subst (λ (qs : List Span). Filled qs list (part ++ drop n list)) (λ i. take (t i) (same i)) whole
@@ -101,26 +114,34 @@ module _ {rs : List Span} {bound : ℤ} {total a m : ℕ} (w : Wanted rs bound t
 
   module _ (len : ℕ) where
     words_whole : total ≤ a → first_words rs len bound ≡ rs
-    words_whole le = cond-false (ltb (lone_count (length rs) bound) (length rs)) _ _ (le-ltb _ _ (omega (arith, stay, w.total_is)))
+    words_whole le =
+        cond-false (ltb (lone_count (length rs) bound) (length rs)) _ _ (le-ltb _ _ (omega (arith, stay, w.total_is)))
 
     words_cut : a < total → first_words rs len bound ≡ to_end len (take (suc a) rs)
-    words_cut lt = cond-true (ltb (lone_count (length rs) bound) (length rs)) _ _ (lt-ltb _ _ (omega (arith, stay, w.total_is))) ∙ ap (λ (k : ℕ). to_end len (take (suc k) rs)) stay
+    words_cut lt =
+        cond-true (ltb (lone_count (length rs) bound) (length rs)) _ _ (lt-ltb _ _ (omega (arith, stay, w.total_is)))
+        ∙ ap (λ (k : ℕ). to_end len (take (suc k) rs)) stay
 
   rwords_whole : total ≤ a → last_words rs bound ≡ rs
-  rwords_whole le = cond-false (ltb (lone_count (length rs) bound) (length rs)) _ _ (le-ltb _ _ (omega (arith, stay, w.total_is)))
+  rwords_whole le =
+      cond-false (ltb (lone_count (length rs) bound) (length rs)) _ _ (le-ltb _ _ (omega (arith, stay, w.total_is)))
 
   rwords_cut : a < total → last_words rs bound ≡ from_start (drop (length rs - suc a) rs)
-  rwords_cut lt = cond-true (ltb (lone_count (length rs) bound) (length rs)) _ _ (lt-ltb _ _ (omega (arith, stay, w.total_is))) ∙ ap (λ (k : ℕ). from_start (drop (length rs - suc k) rs)) stay
+  rwords_cut lt =
+      cond-true (ltb (lone_count (length rs) bound) (length rs)) _ _ (lt-ltb _ _ (omega (arith, stay, w.total_is)))
+      ∙ ap (λ (k : ℕ). from_start (drop (length rs - suc k) rs)) stay
 
   pub words_length : (len : ℕ) → length (first_words rs len bound) ≡ m
   words_length len = ⊎_elim
-      (λ lt. ap length (words_cut len lt) ∙ length-to_end len (take (suc a) rs) ∙ length-take (suc a) rs ∙ omega (arith, w.is, w.total_is))
+      (λ lt. ap length (words_cut len lt) ∙ length-to_end len (take (suc a) rs) ∙ length-take (suc a) rs
+      ∙ omega (arith, w.is, w.total_is))
       (λ le. ap length (words_whole len le) ∙ omega (arith, w.is, w.total_is, few))
       (cases_lt a total)
 
   pub rwords_length : length (last_words rs bound) ≡ m
   rwords_length = ⊎_elim
-      (λ lt. ap length (rwords_cut lt) ∙ length-from_start (drop (length rs - suc a) rs) ∙ length-drop (length rs - suc a) rs ∙ omega (arith, w.is, w.total_is))
+      (λ lt. ap length (rwords_cut lt) ∙ length-from_start (drop (length rs - suc a) rs)
+      ∙ length-drop (length rs - suc a) rs ∙ omega (arith, w.is, w.total_is))
       (λ le. ap length (rwords_whole le) ∙ omega (arith, w.is, w.total_is, few))
       (cases_lt a total)
 
@@ -129,46 +150,74 @@ module _ {rs : List Span} {bound : ℤ} {total a m : ℕ} (w : Wanted rs bound t
     n_is = room.is ∙ w.is
 
     -- all the runs
-    all_put : {list' : List Place} (ps qs : List Span) → total ≤ a → ps ≡ rs → qs ≡ rs → Filled (take n qs) list list' → Lists (Ok ps) list list' (Ok n)
+    all_put : {list' : List Place} (ps qs : List Span) → total ≤ a → ps ≡ rs → qs ≡ rs → Filled (take n qs) list list'
+        → Lists (Ok ps) list list' (Ok n)
     all_put {list'} ps qs le are same f =
         let l : length rs ≡ n = omega (arith, n_is, w.total_is) in
         let all : take n qs ≡ rs = ap (take n) same ∙ take_all n rs (omega (arith, l)) in
         let c = put rs n list list' l (subst (λ (xs : List Span). Filled xs list list') all f) in
-        lists ps list list' n (sym l ∙ ap length (sym are)) (omega (arith, room.is, room.fits)) (c.written ∙ sym are) c.others
+        lists ps list list' n (sym l ∙ ap length (sym are)) (omega (arith, room.is, room.fits))
+        (c.written ∙ sym are) c.others
 
-    pub words_put : (len : ℕ) {list' : List Place} → total ≤ a → Filled (take n rs) list list' → Lists (Ok (first_words rs len bound)) list list' (Ok n)
+    pub words_put : (len : ℕ) {list' : List Place} → total ≤ a → Filled (take n rs) list list'
+        → Lists (Ok (first_words rs len bound)) list list' (Ok n)
     words_put len le f = all_put _ rs le (words_whole len le) refl f
 
-    pub rwords_put : {list' : List Place} → total ≤ a → Filled (take n (drop (total - n) rs)) list list' → Lists (Ok (last_words rs bound)) list list' (Ok n)
-    rwords_put le f = let z : total - n ≡ 0 = omega (arith, n_is) in all_put _ _ le (rwords_whole le) (ap (λ (k : ℕ). drop k rs) z) f
+    pub rwords_put : {list' : List Place} → total ≤ a → Filled (take n (drop (total - n) rs)) list list'
+        → Lists (Ok (last_words rs bound)) list list' (Ok n)
+    rwords_put le f =
+        let z : total - n ≡ 0 = omega (arith, n_is) in all_put _ _ le (rwords_whole le) (ap (λ (k : ℕ). drop k rs) z) f
 
     -- some of them, and one place more
     module _ (lt : a < total) where
       one_more : n ≡ suc a
       one_more = omega (arith, n_is)
 
-      to_len : (len : ℕ) {list' : List Place} → Filled (take n rs) list list' → Lists (Ok (first_words rs len bound)) list (set list' a (record { start = (get_or list' a none).start; end = len })) (Ok n)
+      to_len : (len : ℕ) {list' : List Place} → Filled (take n rs) list list'
+          → Lists (Ok (first_words rs len bound)) list (set list' a
+          (record { start = (get_or list' a none).start; end = len })) (Ok n)
       to_len len {list'} f =
           let d = none in
           let last : Place = record { start = (get_or list' a d).start; end = len } in
-          let c : Put (take n rs) n list list' = put (take n rs) n list list' (length-take n rs ∙ omega (arith, n_is, w.total_is)) f in
-          let set_last : stretches (take (suc a) (set list' a last)) ≡ to_end len (stretches (take (suc a) list')) = set_end list' a len d (omega (arith, c.within, one_more)) in
-          lists (first_words rs len bound) list (set list' a last) n (room.is ∙ sym (words_length len)) (omega (arith, room.is, room.fits))
-          (ap (λ (k : ℕ). stretches (take k (set list' a last))) one_more ∙ set_last ∙ ap (λ (k : ℕ). to_end len (stretches (take k list'))) (sym one_more) ∙ ap (to_end len) (c.written ∙ ap (λ (k : ℕ). take k rs) one_more) ∙ sym (words_cut len lt))
+          let c : Put (take n rs) n list list' =
+          put (take n rs) n list list' (length-take n rs ∙ omega (arith, n_is, w.total_is)) f in
+          let set_last : stretches (take (suc a) (set list' a last)) ≡ to_end len (stretches (take (suc a) list')) =
+          set_end list' a len d (omega (arith, c.within, one_more)) in
+          lists (first_words rs len bound) list (set list' a last) n (room.is ∙ sym (words_length len))
+          (omega (arith, room.is, room.fits))
+          (ap (λ (k : ℕ). stretches (take k (set list' a last))) one_more ∙ set_last
+          ∙ ap (λ (k : ℕ). to_end len (stretches (take k list'))) (sym one_more)
+          ∙ ap (to_end len) (c.written ∙ ap (λ (k : ℕ). take k rs) one_more) ∙ sym (words_cut len lt))
           (drop-set-lt n list' a last (omega (arith, one_more)) ∙ c.others)
 
-      pub words_put_cut : (end len : ℕ) {list' : List Place} → end ≡ len → Filled (take n rs) list list' → Lists (Ok (first_words rs len bound)) list (set list' a (record { start = (get_or list' a none).start; end = end })) (Ok n)
-      words_put_cut end len {list'} is f = subst (λ (k : ℕ). Lists (Ok (first_words rs len bound)) list (set list' a (record { start = (get_or list' a none).start; end = k })) (Ok n)) (sym is) (to_len len f)
+      pub words_put_cut : (end len : ℕ) {list' : List Place} → end ≡ len → Filled (take n rs) list list'
+          → Lists (Ok (first_words rs len bound)) list (set list' a
+          (record { start = (get_or list' a none).start; end = end })) (Ok n)
+      words_put_cut end len {list'} is f =
+          subst
+          (λ (k : ℕ). Lists (Ok (first_words rs len bound)) list
+          (set list' a (record { start = (get_or list' a none).start; end = k })) (Ok n))
+          (sym is) (to_len len f)
 
-      pub rwords_put_cut : {list' : List Place} → Filled (take n (drop (total - n) rs)) list list' → Lists (Ok (last_words rs bound)) list (set list' 0 (record { start = 0; end = (get_or list' 0 none).end })) (Ok n)
+      pub rwords_put_cut : {list' : List Place} → Filled (take n (drop (total - n) rs)) list list'
+          → Lists (Ok (last_words rs bound)) list (set list' 0
+          (record { start = 0; end = (get_or list' 0 none).end })) (Ok n)
       rwords_put_cut {list'} f =
           let d = none in
           let first : Place = record { start = 0; end = (get_or list' 0 d).end } in
           let which : drop (total - n) rs ≡ drop (length rs - suc a) rs = λ i. drop (w.total_is i - one_more i) rs in
-          let l : length (drop (length rs - suc a) rs) ≡ n = length-drop (length rs - suc a) rs ∙ omega (arith, one_more, w.total_is) in
-          let last_runs : take n (drop (total - n) rs) ≡ drop (length rs - suc a) rs = ap (take n) which ∙ take_all n _ (omega (arith, l)) in
-          let c = put (drop (length rs - suc a) rs) n list list' l (subst (λ (ps : List Span). Filled ps list list') last_runs f) in
-          let set_first : stretches (take (suc a) (set list' 0 first)) ≡ from_start (stretches (take (suc a) list')) = set_start list' a d (omega (arith, c.within, one_more)) in
-          lists (last_words rs bound) list (set list' 0 first) n (room.is ∙ sym rwords_length) (omega (arith, room.is, room.fits))
-          (ap (λ (k : ℕ). stretches (take k (set list' 0 first))) one_more ∙ set_first ∙ ap (λ (k : ℕ). from_start (stretches (take k list'))) (sym one_more) ∙ ap from_start c.written ∙ sym (rwords_cut lt))
+          let l : length (drop (length rs - suc a) rs) ≡ n =
+          length-drop (length rs - suc a) rs ∙ omega (arith, one_more, w.total_is) in
+          let last_runs : take n (drop (total - n) rs) ≡ drop (length rs - suc a) rs =
+          ap (take n) which ∙ take_all n _ (omega (arith, l)) in
+          let c =
+          put (drop (length rs - suc a) rs) n list list' l
+          (subst (λ (ps : List Span). Filled ps list list') last_runs f) in
+          let set_first : stretches (take (suc a) (set list' 0 first)) ≡ from_start (stretches (take (suc a) list')) =
+          set_start list' a d (omega (arith, c.within, one_more)) in
+          lists (last_words rs bound) list (set list' 0 first) n (room.is ∙ sym rwords_length)
+          (omega (arith, room.is, room.fits))
+          (ap (λ (k : ℕ). stretches (take k (set list' 0 first))) one_more ∙ set_first
+          ∙ ap (λ (k : ℕ). from_start (stretches (take k list'))) (sym one_more) ∙ ap from_start c.written
+          ∙ sym (rwords_cut lt))
           (drop-set-lt n list' 0 first (omega (arith, one_more)) ∙ c.others)

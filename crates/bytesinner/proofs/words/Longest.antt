@@ -27,12 +27,15 @@ head {bytes} {from} {place} o =
     let z : place + 0 ≡ place = omega arith in
     let s : suc place ≡ place + 1 = omega arith in
     record {
-      here = ap (λ (k : ℕ). get_or bytes k 0) (sym z) ∙ sym (get_or-drop place bytes 0 0) ∙ ap (λ (xs : List ℕ). get_or xs 0 0) e;
+      here =
+          ap (λ (k : ℕ). get_or bytes k 0) (sym z) ∙ sym (get_or-drop place bytes 0 0)
+          ∙ ap (λ (xs : List ℕ). get_or xs 0 0) e;
       lt = omega (arith, length-drop place bytes, ap length e);
       next = ap (λ (k : ℕ). drop k bytes) s ∙ sym (drop-drop 1 place bytes) ∙ ap (drop 1) e;
     }
 
-passed : {bytes : List ℕ} {from place b : ℕ} {bs : List ℕ} → Open bytes from place (b ∷ bs) → is_space b ≡ true → Open bytes (suc place) (suc place) bs
+passed : {bytes : List ℕ} {from place b : ℕ} {bs : List ℕ} → Open bytes from place (b ∷ bs) → is_space b ≡ true
+    → Open bytes (suc place) (suc place) bs
 passed {bytes} {from} {place} {b} o is =
     let h = head o in
     let z : suc place - 1 ≡ place = omega arith in
@@ -44,7 +47,8 @@ passed {bytes} {from} {place} {b} o is =
       before = λ _. ap (λ (k : ℕ). is_space (get_or bytes k 0)) z ∙ ap is_space h.here ∙ is;
     }
 
-went_on : {bytes : List ℕ} {from place b : ℕ} {bs : List ℕ} → Open bytes from place (b ∷ bs) → is_space b ≡ false → Open bytes from (suc place) bs
+went_on : {bytes : List ℕ} {from place b : ℕ} {bs : List ℕ} → Open bytes from place (b ∷ bs) → is_space b ≡ false
+    → Open bytes from (suc place) bs
 went_on {bytes} {from} {place} {b} o is =
     let h = head o in
     let ord = o.order in
@@ -52,43 +56,64 @@ went_on {bytes} {from} {place} {b} o is =
       rest = h.next;
       order = omega arith;
       within = h.lt;
-      bare = λ k ge lt. ⊎_elim (o.bare k ge) (λ past. let z : k ≡ place = omega arith in ap (λ (j : ℕ). is_space (get_or bytes j 0)) z ∙ ap is_space h.here ∙ is) (cases_lt k place);
+      bare =
+          λ k ge lt. ⊎_elim (o.bare k ge)
+          (λ past. let z : k ≡ place = omega arith in ap (λ (j : ℕ). is_space (get_or bytes j 0)) z ∙ ap is_space h.here
+          ∙ is)
+          (cases_lt k place);
       before = o.before;
     }
 
 -- what is in a run and others
 in_run : (a e : ℕ) (rs : List Span) (m : Span) → In m (run a e ++ rs) → ((a < e) × (m ≡ (a, e))) ⊎ In m rs
-in_run a e rs m = cond_both (ltb a e) ((a, e) ∷ []) [] (λ (ms : List Span). In m (ms ++ rs) → ((a < e) × (m ≡ (a, e))) ⊎ In m rs) (λ is. ⊎_elim (λ here. inl (ltb-true a e is, here)) inr) (λ is. inr)
+in_run a e rs m =
+    cond_both (ltb a e) ((a, e) ∷ []) []
+    (λ (ms : List Span). In m (ms ++ rs) → ((a < e) × (m ≡ (a, e))) ⊎ In m rs)
+    (λ is. ⊎_elim (λ here. inl (ltb-true a e is, here)) inr)
+    (λ is. inr)
 
 run_in : (a e : ℕ) (rs : List Span) → a < e → In (a, e) (run a e ++ rs)
 run_in a e rs lt = subst (λ (t : Bool). In (a, e) (cond t ((a, e) ∷ []) [] ++ rs)) (sym (lt-ltb a e lt)) (inl refl)
 
 past_run : (a e : ℕ) (rs : List Span) (m : Span) → In m rs → In m (run a e ++ rs)
-past_run a e rs m there = cond_both (ltb a e) ((a, e) ∷ []) [] (λ (ms : List Span). In m (ms ++ rs)) (λ _. inr there) (λ _. there)
+past_run a e rs m there =
+    cond_both (ltb a e) ((a, e) ∷ []) [] (λ (ms : List Span). In m (ms ++ rs)) (λ _. inr there) (λ _. there)
 
 looser : (p q : ℕ) (rs : List Span) → p ≤ q → InOrder q rs → InOrder p rs
 looser p q [] le o = tt
 looser p q (r ∷ rs) le o = (omega arith, o.1)
 
-order-run : (from place : ℕ) (rs : List Span) → from ≤ place → InOrder (suc place) rs → InOrder from (run from place ++ rs)
-order-run from place rs le more = cond_both (ltb from place) ((from, place) ∷ []) [] (λ (ms : List Span). InOrder from (ms ++ rs)) (λ _. (omega arith, more)) (λ _. looser from (suc place) rs (omega arith) more)
+order-run : (from place : ℕ) (rs : List Span) → from ≤ place → InOrder (suc place) rs
+    → InOrder from (run from place ++ rs)
+order-run from place rs le more =
+    cond_both (ltb from place) ((from, place) ∷ []) []
+    (λ (ms : List Span). InOrder from (ms ++ rs))
+    (λ _. (omega arith, more))
+    (λ _. looser from (suc place) rs (omega arith) more)
 
 order_from : (from place : ℕ) (bs : List ℕ) → from ≤ place → InOrder from (runs_from from place bs)
-order_from from place [] le = cond_both (ltb from place) ((from, place) ∷ []) [] (InOrder from) (λ _. (omega arith, tt)) (λ _. tt)
+order_from from place [] le =
+    cond_both (ltb from place) ((from, place) ∷ []) [] (InOrder from) (λ _. (omega arith, tt)) (λ _. tt)
 order_from from place (b ∷ bs) le =
     cond_both (is_space b) _ _ (InOrder from)
     (λ _. order-run from place _ le (order_from (suc place) (suc place) bs (omega arith)))
     (λ _. order_from from (suc place) bs (omega arith))
 
 -- what ends at the text's end or at whitespace is a run
-closed : {bytes : List ℕ} {from place : ℕ} {bs : List ℕ} (m : Span) → Open bytes from place bs → (place < length bytes → is_space (get_or bytes place 0) ≡ true) → from < place → m ≡ (from, place) → Run bytes m.0 m.1
+closed : {bytes : List ℕ} {from place : ℕ} {bs : List ℕ} (m : Span) → Open bytes from place bs
+    → (place < length bytes → is_space (get_or bytes place 0) ≡ true) → from < place → m ≡ (from, place)
+    → Run bytes m.0 m.1
 closed {bytes} {from} {place} m o ends lt is =
-    subst (λ (r : Span). Run bytes r.0 r.1) (sym is) (record { nonempty = lt; within = o.within; bare = o.bare; before = o.before; after = ends })
+    subst (λ (r : Span). Run bytes r.0 r.1) (sym is)
+    (record { nonempty = lt; within = o.within; bare = o.bare; before = o.before; after = ends })
 
-each_from : (bytes : List ℕ) (from place : ℕ) (bs : List ℕ) → Open bytes from place bs → (m : Span) → In m (runs_from from place bs) → Run bytes m.0 m.1
+each_from : (bytes : List ℕ) (from place : ℕ) (bs : List ℕ) → Open bytes from place bs → (m : Span)
+    → In m (runs_from from place bs) → Run bytes m.0 m.1
 each_from bytes from place [] o m =
     cond_both (ltb from place) ((from, place) ∷ []) [] (λ (ms : List Span). In m ms → Run bytes m.0 m.1)
-    (λ is. ⊎_elim (closed m o (λ lt. absurd (omega (arith, length-drop place bytes, ap length o.rest))) (ltb-true from place is)) (λ none. absurd none))
+    (λ is. ⊎_elim
+    (closed m o (λ lt. absurd (omega (arith, length-drop place bytes, ap length o.rest))) (ltb-true from place is))
+    (λ none. absurd none))
     (λ _ none. absurd none)
 each_from bytes from place (b ∷ bs) o m =
     cond_both (is_space b) _ _ (λ (ms : List Span). In m ms → Run bytes m.0 m.1)
@@ -99,42 +124,60 @@ each_from bytes from place (b ∷ bs) o m =
     (λ is. each_from bytes from (suc place) bs (went_on o is) m)
 
 -- a run that begins in the stretch under way begins with it
-begins : {bytes : List ℕ} {from place : ℕ} {bs : List ℕ} (a e : ℕ) → Open bytes from place bs → Run bytes a e → from ≤ a → a ≤ place → a ≡ from
+begins : {bytes : List ℕ} {from place : ℕ} {bs : List ℕ} (a e : ℕ) → Open bytes from place bs → Run bytes a e → from ≤ a
+    → a ≤ place → a ≡ from
 begins {bytes} {from} {place} a e o r ge le = ⊎_elim
     (λ lt. absurd (both_ways _ (o.bare (a - 1) (omega arith) (omega arith)) (r.before (omega arith))))
     (λ past. omega arith)
     (cases_lt from a)
 
 -- and does not end before its place
-not_before : {bytes : List ℕ} {from place : ℕ} {bs : List ℕ} (a e : ℕ) → Open bytes from place bs → Run bytes a e → from ≤ a → place ≤ e
+not_before : {bytes : List ℕ} {from place : ℕ} {bs : List ℕ} (a e : ℕ) → Open bytes from place bs → Run bytes a e
+    → from ≤ a → place ≤ e
 not_before {bytes} {from} {place} a e o r ge = ⊎_elim
     (λ lt. absurd (both_ways _ (o.bare e (omega (arith, r.nonempty)) lt) (r.after (omega (arith, o.within)))))
     (λ h. h)
     (cases_lt e place)
 
-every-from : (bytes : List ℕ) (from place : ℕ) (bs : List ℕ) → Open bytes from place bs → (a e : ℕ) → Run bytes a e → from ≤ a → In (a, e) (runs_from from place bs)
+every-from : (bytes : List ℕ) (from place : ℕ) (bs : List ℕ) → Open bytes from place bs → (a e : ℕ) → Run bytes a e
+    → from ≤ a → In (a, e) (runs_from from place bs)
 every-from bytes from place [] o a e r ge =
     let all : place ≡ length bytes = omega (arith, length-drop place bytes, ap length o.rest, o.within) in
     let l = not_before a e o r ge in
     let end : place ≡ e = omega (arith, r.within) in
     let start : from ≡ a = sym (begins a e o r ge (omega (arith, r.nonempty))) in
     let lt : from < place = omega (arith, r.nonempty) in
-    subst (λ (t : Bool). In (a, e) (cond t ((from, place) ∷ []) [])) (sym (lt-ltb from place lt)) (inl (λ i. (sym start i, sym end i)))
+    subst (λ (t : Bool). In (a, e) (cond t ((from, place) ∷ []) [])) (sym (lt-ltb from place lt))
+    (inl (λ i. (sym start i, sym end i)))
 every-from bytes from place (b ∷ bs) o a e r ge =
     cond_both (is_space b) _ _ (In (a, e))
     (λ is. ⊎_elim
     (λ lt.
     let l = not_before a e o r ge in
     let start : from ≡ a = sym (begins a e o r ge (omega arith)) in
-    let no-further : e ≤ place = ⊎_elim (λ in-it. absurd (both_ways _ (r.bare place (omega arith) in-it) (ap is_space (head o).here ∙ is))) (λ h. h) (cases_lt place e) in
+    let no-further : e ≤ place =
+    ⊎_elim
+    (λ in-it. absurd (both_ways _ (r.bare place (omega arith) in-it) (ap is_space (head o).here ∙ is)))
+    (λ h. h)
+    (cases_lt place e) in
     let end : place ≡ e = omega arith in
-    subst (λ (s : Span). In s (run from place ++ runs_from (suc place) (suc place) bs)) (λ i. (start i, end i)) (run_in from place _ (omega (arith, r.nonempty))))
+    subst
+    (λ (s : Span). In s (run from place ++ runs_from (suc place) (suc place) bs))
+    (λ i. (start i, end i))
+    (run_in from place _ (omega (arith, r.nonempty))))
     (λ later. past_run from place _ (a, e) (every-from bytes (suc place) (suc place) bs (passed o is) a e r later))
     (cases_lt a (suc place)))
     (λ is. every-from bytes from (suc place) bs (went_on o is) a e r ge)
 
 opens : (bytes : List ℕ) → Open bytes 0 0 bytes
-opens bytes = record { rest = refl; order = omega arith; within = omega arith; bare = λ k ge lt. absurd (omega arith); before = λ some. absurd (omega arith) }
+opens bytes =
+    record {
+      rest = refl;
+      order = omega arith;
+      within = omega arith;
+      bare = λ k ge lt. absurd (omega arith);
+      before = λ some. absurd (omega arith);
+    }
 
 pub all_runs : (bytes : List ℕ) → AllRuns bytes (runs bytes)
 all_runs bytes = record {

@@ -25,42 +25,56 @@ other false true h = refl
 other false false h = cc
 
 -- what holds of a stretch at the front, by whether the first byte is in it
-front : (b : ℕ) (bs : List ℕ) (spaces : Bool) (P : ℕ → Type 0) → (is_space b ≡ spaces → P (suc (stretch_len bs spaces))) → (is_space b ≡ not spaces → P 0) → P (stretch_len (b ∷ bs) spaces)
+front : (b : ℕ) (bs : List ℕ) (spaces : Bool) (P : ℕ → Type 0) → (is_space b ≡ spaces → P (suc (stretch_len bs spaces)))
+    → (is_space b ≡ not spaces → P 0) → P (stretch_len (b ∷ bs) spaces)
 front b bs spaces P in-it past =
     let s : suc (stretch_len bs spaces) ≡ 1 + stretch_len bs spaces = omega arith in
-    cond_both (beq spaces (is_space b)) (1 + stretch_len bs spaces) 0 P (λ h. subst P s (in-it (same spaces (is_space b) h))) (λ h. past (other spaces (is_space b) h))
+    cond_both (beq spaces (is_space b)) (1 + stretch_len bs spaces) 0 P
+    (λ h. subst P s (in-it (same spaces (is_space b) h)))
+    (λ h. past (other spaces (is_space b) h))
 
 -- no run ends in the whitespace at the front
-over_space : (i : ℕ) (bs : List ℕ) → runs_from i i bs ≡ runs_from (i + stretch_len bs true) (i + stretch_len bs true) (drop (stretch_len bs true) bs)
+over_space : (i : ℕ) (bs : List ℕ)
+    → runs_from i i bs ≡ runs_from (i + stretch_len bs true) (i + stretch_len bs true) (drop (stretch_len bs true) bs)
 over_space i [] = let z : i ≡ i + 0 = omega arith in ap (λ (k : ℕ). run k k) z
 over_space i (b ∷ bs) = front b bs true (λ n. runs_from i i (b ∷ bs) ≡ runs_from (i + n) (i + n) (drop n (b ∷ bs)))
     (λ is.
     let n = stretch_len bs true in
     let e : suc i + n ≡ i + suc n = omega arith in
-    cond-true (is_space b) _ _ is ∙ (ap (λ (rs : List Span). rs ++ runs_from (suc i) (suc i) bs) (no_run i) ∙ (over_space (suc i) bs ∙ ap (λ (k : ℕ). runs_from k k (drop n bs)) e)))
+    cond-true (is_space b) _ _ is
+    ∙
+    (ap (λ (rs : List Span). rs ++ runs_from (suc i) (suc i) bs) (no_run i)
+    ∙ (over_space (suc i) bs ∙ ap (λ (k : ℕ). runs_from k k (drop n bs)) e)))
     (λ is. let z : i ≡ i + 0 = omega arith in ap (λ (k : ℕ). runs_from k k (b ∷ bs)) z)
 
 -- the stretch under way goes on to the next whitespace
-through_run : (from i : ℕ) (bs : List ℕ) → runs_from from i bs ≡ run from (i + stretch_len bs false) ++ runs_from (i + stretch_len bs false) (i + stretch_len bs false) (drop (stretch_len bs false) bs)
+through_run : (from i : ℕ) (bs : List ℕ)
+    → runs_from from i bs
+    ≡ run from (i + stretch_len bs false) ++ runs_from (i + stretch_len bs false) (i + stretch_len bs false) (drop (stretch_len bs false) bs)
 through_run from i [] =
     let z : i ≡ i + 0 = omega arith in
     sym (append-nil (run from i)) ∙ ((λ k. run from i ++ sym (no_run i) k) ∙ ap (λ (k : ℕ). run from k ++ run k k) z)
-through_run from i (b ∷ bs) = front b bs false (λ n. runs_from from i (b ∷ bs) ≡ run from (i + n) ++ runs_from (i + n) (i + n) (drop n (b ∷ bs)))
+through_run from i (b ∷ bs) =
+    front b bs false (λ n. runs_from from i (b ∷ bs) ≡ run from (i + n) ++ runs_from (i + n) (i + n) (drop n (b ∷ bs)))
     (λ is.
     let n = stretch_len bs false in
     let e : suc i + n ≡ i + suc n = omega arith in
-    cond-false (is_space b) _ _ is ∙ (through_run from (suc i) bs ∙ ap (λ (k : ℕ). run from k ++ runs_from k k (drop n bs)) e))
+    cond-false (is_space b) _ _ is
+    ∙ (through_run from (suc i) bs ∙ ap (λ (k : ℕ). run from k ++ runs_from k k (drop n bs)) e))
     (λ is.
     let z : i ≡ i + 0 = omega arith in
-    let here : runs_from i i (b ∷ bs) ≡ runs_from (suc i) (suc i) bs = cond-true (is_space b) _ _ is ∙ ap (λ (rs : List Span). rs ++ runs_from (suc i) (suc i) bs) (no_run i) in
-    cond-true (is_space b) _ _ is ∙ ((λ k. run from i ++ sym here k) ∙ ap (λ (k : ℕ). run from k ++ runs_from k k (b ∷ bs)) z))
+    let here : runs_from i i (b ∷ bs) ≡ runs_from (suc i) (suc i) bs =
+    cond-true (is_space b) _ _ is ∙ ap (λ (rs : List Span). rs ++ runs_from (suc i) (suc i) bs) (no_run i) in
+    cond-true (is_space b) _ _ is
+    ∙ ((λ k. run from i ++ sym here k) ∙ ap (λ (k : ℕ). run from k ++ runs_from k k (b ∷ bs)) z))
 
 -- past the whitespace at the front stands something that is none, or nothing
 ends : (bs : List ℕ) → stretch_len (drop (stretch_len bs true) bs) false ≡ 0 → drop (stretch_len bs true) bs ≡ []
 ends [] = λ h. refl
 ends (b ∷ bs) = front b bs true (λ n. stretch_len (drop n (b ∷ bs)) false ≡ 0 → drop n (b ∷ bs) ≡ [])
     (λ is. ends bs)
-    (λ is. front b bs false (λ n. n ≡ 0 → b ∷ bs ≡ []) (λ _ h. absurd (omega arith)) (λ bare h. let t : true ≡ false = sym bare ∙ is in cc))
+    (λ is. front b bs false (λ n. n ≡ 0 → b ∷ bs ≡ []) (λ _ h. absurd (omega arith))
+    (λ bare h. let t : true ≡ false = sym bare ∙ is in cc))
 
 -- what a scan from an offset on finds: so many bytes of whitespace, and so many after them that are none
 pub record Scanned (bytes : List ℕ) (place passed len : ℕ) : Type 0 where
@@ -68,24 +82,30 @@ pub record Scanned (bytes : List ℕ) (place passed len : ℕ) : Type 0 where
   pub through : len ≡ stretch_len (drop passed (drop place bytes)) false
 
 -- a scan of the rest, as slices of it are read
-pub scanned : {bytes : List ℕ} {place passed len : ℕ} (all rest : List ℕ) → all ≡ bytes → rest ≡ slice_range all place (length all) → passed ≡ stretch_len rest true → len ≡ stretch_len (slice_range rest passed (length rest)) false
+pub scanned : {bytes : List ℕ} {place passed len : ℕ} (all rest : List ℕ) → all ≡ bytes
+    → rest ≡ slice_range all place (length all) → passed ≡ stretch_len rest true
+    → len ≡ stretch_len (slice_range rest passed (length rest)) false
     → Scanned bytes place passed len
 scanned {place = place} {passed = passed} all rest same is over through =
     let from_place = is ∙ (take_rest all place ∙ ap (drop place) same) in
     record {
       over = over ∙ ap (λ (bs : List ℕ). stretch_len bs true) from_place;
-      through = through ∙ ap (λ (bs : List ℕ). stretch_len bs false) (take_rest rest passed ∙ ap (drop passed) from_place);
+      through =
+          through ∙ ap (λ (bs : List ℕ). stretch_len bs false) (take_rest rest passed ∙ ap (drop passed) from_place);
     }
 
 module _ (bytes : List ℕ) (place passed len : ℕ) (s : Scanned bytes place passed len) where
   passed_over : runs_left bytes place ≡ runs_from (place + passed) (place + passed) (drop passed (drop place bytes))
-  passed_over = over_space place (drop place bytes) ∙ ap (λ (n : ℕ). runs_from (place + n) (place + n) (drop n (drop place bytes))) (sym s.over)
+  passed_over =
+      over_space place (drop place bytes)
+      ∙ ap (λ (n : ℕ). runs_from (place + n) (place + n) (drop n (drop place bytes))) (sym s.over)
 
   pub none_left : len ≡ 0 → runs_left bytes place ≡ []
   none_left none =
       let at_end : drop passed (drop place bytes) ≡ [] =
       ap (λ (n : ℕ). drop n (drop place bytes)) s.over
-      ∙ ends (drop place bytes) (ap (λ (n : ℕ). stretch_len (drop n (drop place bytes)) false) (sym s.over) ∙ (sym s.through ∙ none)) in
+      ∙ ends (drop place bytes)
+      (ap (λ (n : ℕ). stretch_len (drop n (drop place bytes)) false) (sym s.over) ∙ (sym s.through ∙ none)) in
       passed_over ∙ (ap (runs_from (place + passed) (place + passed)) at_end ∙ no_run (place + passed))
 
   pub run_after : 0 < len
@@ -94,6 +114,10 @@ module _ (bytes : List ℕ) (place passed len : ℕ) (s : Scanned bytes place pa
       let start : ℕ = place + passed in
       let end : ℕ = start + len in
       let rest : List ℕ = drop passed (drop place bytes) in
-      let after : drop len rest ≡ drop end bytes = ap (drop len) (drop-drop passed place bytes) ∙ drop-drop len start bytes in
-      passed_over ∙ (through_run start start rest ∙ (ap (λ (n : ℕ). run start (start + n) ++ runs_from (start + n) (start + n) (drop n rest)) (sym s.through)
+      let after : drop len rest ≡ drop end bytes =
+      ap (drop len) (drop-drop passed place bytes) ∙ drop-drop len start bytes in
+      passed_over
+      ∙
+      (through_run start start rest
+      ∙ (ap (λ (n : ℕ). run start (start + n) ++ runs_from (start + n) (start + n) (drop n rest)) (sym s.through)
       ∙ (λ k. one_run start end (omega arith) k ++ runs_from end end (after k))))

@@ -17,6 +17,7 @@ returns g c =
     let new = c.list.new.places in
     let n = c.list.result in
     let list : Lists (Ok (lines_of (concat es) ends)) old new n =
-    subst (λ ls. Lists (Ok ls) old new n) (opened-left c.new.result c.new.ensures.on c.new.ensures.state) c.list.ensures in
+    subst (λ ls. Lists (Ok ls) old new n)
+    (opened-left c.new.result c.new.ensures.on c.new.ensures.state) c.list.ensures in
     let cut = written (Cuttable es) _ (lines-cut es c.ascii_apart.ensures ends) old new n list in
     record { value = list; law = lines-law (concat es); cut = cut }

@@ -18,7 +18,8 @@ returns-in-Present-clause-fills g c =
     let f : SFits w64 count = search rules in
     let zero : count ≡ pos 0 = omega (arith, ints) in
     let same = bound-zero c.args.maxcount count c.in-Present.is zero in
-    fills _ (concat es) _ _ (coded c.push_str.result) (ap (replaced_text es from to) same ∙ none-replaced_text es from to)
+    fills _ (concat es) _ _ (coded c.push_str.result)
+    (ap (replaced_text es from to) same ∙ none-replaced_text es from to)
     (omega (arith, g.S.AnyStr.few text)) c.push_str.ensures.fills
 
 pub returns-in-Present-clause-law : goal.returns-in-Present-clause-law

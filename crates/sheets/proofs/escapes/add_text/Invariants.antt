@@ -9,7 +9,7 @@ use Rattle.sheets.proofs.escapes.add_text.Given as goal
 abbrev pub invariant-loop-len : goal.invariant-loop-len
 invariant-loop-len g l = record {
   count : ℕ;
-  begins : offset (g.S.AnyStr.elements l.text) count ≡ l.start;
+  begins : l.start ≡ offset (g.S.AnyStr.elements l.text) count;
   added : vec_items l.out ≡ vec_items l.initial.out ++ shown (take count (g.S.AnyStr.elements l.text));
   grown : vec_capacity l.initial.out ≤ vec_capacity l.out;
 }

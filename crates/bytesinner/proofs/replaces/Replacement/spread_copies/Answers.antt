@@ -6,13 +6,13 @@ use Rattle.anystr.specs.Refusals.{coded}
 use Rattle.anystr.specs.Texts.{bytes_of}
 use Rattle.anystr.proofs.Boundaries.{end_on, offset-within}
 use Rattle.anystr.proofs.Parts.{concat-part}
+use Rattle.anystr.proofs.Walking.{offset-all, element_here, none_here, rest-bytes}
 use Rattle.trays.specs.Trays.{gained}
 use Rattle.cutters.proofs.Pouring.{Pouring}
 use Rattle.bytesinner.specs.replaces.Replacements.{copies_spread}
 use Rattle.bytesinner.proofs.joins.Joining.{took_next}
 use Rattle.bytesinner.proofs.replaces.Spreading.{spread_text-copy_count, copy_count-few}
 use Rattle.bytesinner.proofs.replaces.Turning.{to-come, all_poured, left, copy-ahead, last-copy, no-copy}
-use Rattle.bytesinner.proofs.replaces.Walking.{offset-all, element_here, none_here, rest-bytes}
 use Rattle.bytesinner.proofs.replaces.Replacement.spread_copies.Goals as goal
 use Rattle.bytesinner.proofs.replaces.Replacement.spread_copies.Goals.{in-Some, in_default}
 

@@ -17,7 +17,8 @@ use Rattle.bytesinner.proofs.tables.maketrans.maketrans.Goals as goal
 
 -- what holds of bytes that are pushed holds of those that are appended
 pushed_appends : {Tray X : Type 0} (contents : Tray → Contents) (P : List ℕ → Type 0) (bytes : List ℕ)
-    (tray tray' : Tray) (r : Result X Refusal) → P bytes → Fills contents (Ok bytes) tray tray' r → Appends contents tray tray' P r
+    (tray tray' : Tray) (r : Result X Refusal) → P bytes → Fills contents
+    (Ok bytes) tray tray' r → Appends contents tray tray' P r
 pushed_appends contents P bytes tray tray' (Ok _) holds p = (bytes, p.1, holds)
 pushed_appends contents P bytes tray tray' (Err _) holds p = tt
 
@@ -27,7 +28,8 @@ returns-then-keys-values-clause-fills g c =
     let to = c.args.to.now.bytes.now in
     let f = ap length (c.as_bytes-keys.ensures ∙ concat-singles from) in
     let t = ap length (c.as_bytes-values.ensures ∙ concat-singles to) in
-    let other : (length from == length to) ≡ false = ne_eqb (length from) (length to) (λ e. c.if-keys-values.true (omega arith)) in
+    let other : (length from == length to) ≡ false =
+    ne_eqb (length from) (length to) (λ e. c.if-keys-values.true (omega arith)) in
     rw other (refl, refl)
 
 pub loop-key-init : goal.loop-key-init
@@ -36,8 +38,11 @@ loop-key-init g c =
     let to = c.args.to.now.bytes.now in
     let long : length c.identity-table.result ≡ byte_values = search rules in
     let f = ap length (c.as_bytes-keys.ensures ∙ concat-singles from) in
-    let t = ap length (c.as_bytes-values.ensures ∙ concat-singles to) in
-    (long, omega arith, partners_none c.identity-table.result from to (length from - 0) (omega arith) c.identity-table.ensures)
+    let t = ap length (c.as_bytes-values.ensures ∙ concat-singles to) in (
+      long,
+      omega arith,
+      partners_none c.identity-table.result from to (length from - 0) (omega arith) c.identity-table.ensures,
+    )
 
 pub loop-key-preserved : goal.loop-key-preserved
 loop-key-preserved g c =
@@ -47,9 +52,15 @@ loop-key-preserved g c =
     let t = concat-singles to in
     let inv = c.loop-key.invariant in
     let pairs = YieldsList-from_zip (YieldsList-from_rev_slice from cc) (YieldsList-from_rev_slice to cc) in
-    let next = YieldsList-turn pairs c.loop-key.yielded _ c.loop-key.yielded_by _ c.next.new.self (c.in-Some.key, c.in-Some.value) c.in-Some.is c.next.ensures.steps in
-    let one = length_push c.loop-key.yielded (c.in-Some.key, c.in-Some.value) in
-    (length-set c.loop-key.table c.in-Some.key.now c.in-Some.value.now ∙ inv.0, inv.1, partners_turn c.loop-key.table from to _ _ _ _ inv.1 next.0 next.1 one inv.0 inv.2)
+    let next =
+    YieldsList-turn pairs c.loop-key.yielded _ c.loop-key.yielded_by _ c.next.new.self
+    (c.in-Some.key, c.in-Some.value) c.in-Some.is c.next.ensures.steps in
+    let one = length_push c.loop-key.yielded (c.in-Some.key, c.in-Some.value) in (
+      length-set c.loop-key.table c.in-Some.key.now c.in-Some.value.now
+          ∙ inv.0,
+      inv.1,
+      partners_turn c.loop-key.table from to _ _ _ _ inv.1 next.0 next.1 one inv.0 inv.2,
+    )
 
 pub returns : goal.returns
 returns g c =
@@ -59,10 +70,14 @@ returns g c =
     let t = concat-singles to in
     let inv = c.loop-key.invariant in
     let pairs = YieldsList-from_zip (YieldsList-from_rev_slice from cc) (YieldsList-from_rev_slice to cc) in
-    let end = YieldsList-end pairs c.loop-key.yielded _ c.loop-key.yielded_by _ c.next.new.self c.in-None.is c.next.ensures.steps in
+    let end =
+    YieldsList-end pairs c.loop-key.yielded _ c.loop-key.yielded_by _ c.next.new.self c.in-None.is c.next.ensures.steps in
     let table = c.loop-key.table in
-    let made : table ≡ table_from from to = partners_all table from to (length from - length c.loop-key.yielded) (omega (arith, end.1, length-zip (reverse from) (reverse to), length-reverse from, length-reverse to)) inv.0 inv.2 in
-    let shown : concat (singles c.new.result.bytes.now) ≡ table_from from to = ap concat (c.new.ensures.given (omega (arith, inv.0))) ∙ (concat-singles table ∙ made) in
+    let made : table ≡ table_from from to =
+    partners_all table from to (length from - length c.loop-key.yielded)
+    (omega (arith, end.1, length-zip (reverse from) (reverse to), length-reverse from, length-reverse to)) inv.0 inv.2 in
+    let shown : concat (singles c.new.result.bytes.now) ≡ table_from from to =
+    ap concat (c.new.ensures.given (omega (arith, inv.0))) ∙ (concat-singles table ∙ made) in
     let p = rw shown at c.push_str.ensures.fills in
     let same : (length from == length to) ≡ true = eq-eqb (length from) (length to) inv.1 in
     let contents = g.T.AnyStrContainer.contents in

@@ -16,7 +16,8 @@ returns-then-needed-free-clause-fills g c =
     let delete = delete_in c.args.options in
     let meant = c.in_ok-table.ensures in
     let shown : bytes ≡ text = c.as_bytes-bytes.ensures ∙ concat-singles text in
-    let is = ap length (kept_bytes-is (member c.loop-d.gone.has) delete c.in_ok-table.delete.now text bytes c.loop-d.d-index
+    let is = ap length
+    (kept_bytes-is (member c.loop-d.gone.has) delete c.in_ok-table.delete.now text bytes c.loop-d.d-index
     c.loop-d-test.false c.loop-d.invariant meant.goes shown) in
     let long = length-map (kept_bytes (among delete) text) (image (table_in c.args.options)) in
     rw meant.long (omega arith, cc, refl)
@@ -44,7 +45,8 @@ returns g c =
     let tray = g.T.AnyStrContainer.contents c.args.tray.now in
     let meant = c.in_ok-table.ensures in
     let shown : bytes ≡ text = c.as_bytes-bytes.ensures ∙ concat-singles text in
-    let is = kept_bytes-is (member c.loop-d.gone.has) (delete_in options) c.in_ok-table.delete.now text bytes c.loop-d.d-index
+    let is = kept_bytes-is (member c.loop-d.gone.has)
+    (delete_in options) c.in_ok-table.delete.now text bytes c.loop-d.d-index
     c.loop-d-test.false c.loop-d.invariant meant.goes shown in
     let images = kept_images options text in
     let made : g.T.AnyStrContainer.contents c.loop-b.tray ≡ gained tray images =

@@ -4,7 +4,10 @@ use Rattle.bytesinner.proofs.finds.Meant.{meant, offset-within}
 use Rattle.bytesinner.proofs.finds.options.ByteInnerFindOptions.ask.Goals as goal
 
 pub invariant_of-stretch : goal.invariant_of-stretch
-invariant_of-stretch g c = record { within = offset-within c.args.self c.args.text.now.bytes.now _ _ _ _ c.in_ok-needle.ensures c.bytes_len.ensures }
+invariant_of-stretch g c =
+    record {
+      within = offset-within c.args.self c.args.text.now.bytes.now _ _ _ _ c.in_ok-needle.ensures c.bytes_len.ensures;
+    }
 
 pub returns-clause-answer : goal.returns-clause-answer
 returns-clause-answer g c =

@@ -9,23 +9,37 @@ pub returns-then-is_empty : goal.returns-then-is_empty
 returns-then-is_empty c =
     let s = c.args.self.now in
     let n = c.args.needle.bytes.now in
-    empty-last s.text.bytes.now n s.range.end s.within s.range.start c.in_ok-part.ensures.order (none n c.if-is_empty.ensures)
+    empty-last s.text.bytes.now n s.range.end s.within s.range.start c.in_ok-part.ensures.order
+    (none n c.if-is_empty.ensures)
 
 pub returns-in_err-mark : goal.returns-in_err-mark
 returns-in_err-mark c =
     let s = c.args.self.now in
     let n = c.args.needle.bytes.now in
-    let long : c.bytes_len.result ≡ s.range.end - s.range.start = c.bytes_len.ensures ∙ (ap length (concat-singles c.in_ok-part.part.bytes.now ∙ c.in_ok-part.ensures.bytes) ∙ length_part s.text.bytes.now s.range.start s.range.end s.within) in
-    let none = simp concat-singles at (rw (c.new.ensures, c.in_ok-part.ensures.bytes, long) at c.in_err-mark.ensures.value) in
-    rw c.from_residual-in_err-mark.ensures (not_found_back s.text.bytes.now n s.range.end s.within s.range.start c.in_ok-part.ensures.order (some n c.if-is_empty.ensures) none)
+    let long : c.bytes_len.result ≡ s.range.end - s.range.start =
+    c.bytes_len.ensures
+    ∙
+    (ap length (concat-singles c.in_ok-part.part.bytes.now ∙ c.in_ok-part.ensures.bytes)
+    ∙ length_part s.text.bytes.now s.range.start s.range.end s.within) in
+    let none =
+    simp concat-singles at (rw (c.new.ensures, c.in_ok-part.ensures.bytes, long) at c.in_err-mark.ensures.value) in
+    rw c.from_residual-in_err-mark.ensures
+    (not_found_back s.text.bytes.now n s.range.end s.within s.range.start c.in_ok-part.ensures.order
+    (some n c.if-is_empty.ensures) none)
 
 pub returns : goal.returns
 returns c =
     let s = c.args.self.now in
     let m = c.in_ok-mark.mark in
-    let long : c.bytes_len.result ≡ s.range.end - s.range.start = c.bytes_len.ensures ∙ (ap length (concat-singles c.in_ok-part.part.bytes.now ∙ c.in_ok-part.ensures.bytes) ∙ length_part s.text.bytes.now s.range.start s.range.end s.within) in
-    let greatest = simp concat-singles at (rw (c.new.ensures, c.in_ok-part.ensures.bytes, long) at c.in_ok-mark.ensures.value) in
+    let long : c.bytes_len.result ≡ s.range.end - s.range.start =
+    c.bytes_len.ensures
+    ∙
+    (ap length (concat-singles c.in_ok-part.part.bytes.now ∙ c.in_ok-part.ensures.bytes)
+    ∙ length_part s.text.bytes.now s.range.start s.range.end s.within) in
+    let greatest =
+    simp concat-singles at (rw (c.new.ensures, c.in_ok-part.ensures.bytes, long) at c.in_ok-mark.ensures.value) in
     found_back s.text.bytes.now c.args.needle.bytes.now s.range.end s.within s.range.start c.in_ok-part.ensures.order m.start m.end greatest
 
 pub overflow_add-result : goal.overflow_add-result
-overflow_add-result c = let place = (returns c).0 in omega (arith, place.ahead, c.args.self.now.within, c.args.self.now.text.few)
+overflow_add-result c =
+    let place = (returns c).0 in omega (arith, place.ahead, c.args.self.now.within, c.args.self.now.text.few)

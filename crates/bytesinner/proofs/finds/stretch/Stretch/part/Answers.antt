@@ -7,4 +7,5 @@ pub returns-clause-bytes : goal.returns-clause-bytes
 returns-clause-bytes c =
     let s = c.args.self.now in
     let ps = c.get_bytes.result.bytes.now in
-    sym (concat-singles ps) ∙ got_part s.text.bytes.now ps s.range.start s.range.end c.if-self.false s.within c.get_bytes.ensures.given
+    sym (concat-singles ps)
+    ∙ got_part s.text.bytes.now ps s.range.start s.range.end c.if-self.false s.within c.get_bytes.ensures.given

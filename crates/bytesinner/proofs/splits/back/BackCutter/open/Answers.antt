@@ -7,7 +7,8 @@ use Rattle.cutters.specs.declared.progress.Progress.{Progress}
 use Rattle.bytesinner.proofs.splits.back.BackCutter.open.Goals as goal
 
 -- a progress at the end of a text is that of a cutter that was just opened
-begun : (p : Progress) (n len : ℕ) → state_at p ≡ at n 0 false → len - p.place ≡ 0 → at (len - p.place) p.made p.spent ≡ at_opening
+begun : (p : Progress) (n len : ℕ) → state_at p ≡ at n 0 false → len - p.place ≡ 0
+    → at (len - p.place) p.made p.spent ≡ at_opening
 begun p n len is end = let made = ap State.made is in let spent = ap State.spent is in cc
 
 pub invariant_of-result : goal.invariant_of-result
@@ -21,4 +22,6 @@ invariant_of-result g c =
     }
 
 pub returns-clause-state : goal.returns-clause-state
-returns-clause-state g c = let e = ap State.place c.from_place.ensures in begun c.from_place.result _ _ c.from_place.ensures (omega arith)
+returns-clause-state g c =
+    let e = ap State.place c.from_place.ensures in
+    begun c.from_place.result _ _ c.from_place.ensures (omega arith)

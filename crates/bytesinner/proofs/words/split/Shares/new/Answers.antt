@@ -16,7 +16,11 @@ count-total-requires-clause-fits g c =
 pub invariant_of-result-clause-few : goal.invariant_of-result-clause-few
 invariant_of-result-clause-few g c =
     let s = c.new.result in
-    omega (arith, runs_left-few s.place (concat (g.S.AnyStr.elements s.text)) (g.S.AnyStr.few s.text), c.count-total.ensures.bound)
+    omega (
+      arith,
+      runs_left-few s.place (concat (g.S.AnyStr.elements s.text)) (g.S.AnyStr.few s.text),
+      c.count-total.ensures.bound,
+    )
 
 pub returns-clause-total : goal.returns-clause-total
 returns-clause-total g c =
