@@ -153,7 +153,8 @@ impl<S: AnyStr, F: Searcher<S>> Cutter<S, F> {
     fn pour_pieces<T: AnyStrContainer>(&mut self, to: &S, tray: &mut T)
         requires unspent { (state self.old).spent ≡ false }
         requires fits { length (poured_by self.old to.now) ≤ length (T.contents tray.old).spare }
-        ensures gained { T.contents tray.new ≡ gained (T.contents tray.old) (poured_by self.old to.now) }
+        ensures gained { T.contents tray.new
+            ≡ gained (T.contents tray.old) (poured_by self.old to.now) }
         ensures same_loan { T.loan tray.new ≡ T.loan tray.old }
         ensures after { state self.new ≡ poured_out (opening self.old) (state self.old) }
         ensures same { SameOpening self.old self.new }
