@@ -25,7 +25,8 @@ module _ {S F C : Type 0} {s : AnyStr.Ghosts S C} {f : Searcher.Ghosts F S C} wh
       (law : (searcher : F) (text : S) → Lawful (f.marks searcher (s.elements text)) (length (bytes_of s text)))
     where
       -- a next gives the first of the pieces that are left
-      pub next_yields : (c d : Cutter S F C s f) (r : Option Piece) → NextStep c r d → YieldsFirstBy span left_pieces c r d
+      pub next_yields : (c d : Cutter S F C s f) (r : Option Piece) → NextStep c r d
+          → YieldsFirstBy span left_pieces c r d
       next_yields c d r n =
           let p = c.progress in
           let same = same_opening c d n.same in
