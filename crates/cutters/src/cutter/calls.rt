@@ -1,7 +1,7 @@
 // The calls on a cutter.
-ghost use Rattle.std.specs.Prelude.{◌≡◌, ◌-◌, ◌≤◌, true, false, cond, [], length, take, drop, Some};
-ghost use Rattle.std.specs.List.{concat};
+ghost use Rattle.std.specs.Prelude.{◌≡◌, ◌-◌, ◌≤◌, true, false, if◌then◌else◌, [], length, take, drop, Some};
 ghost use Rattle.anystr.specs.Limits.{most_bytes};
+ghost use Rattle.anystr.specs.Texts.{bytes_of};
 ghost use Rattle.trays.specs.Trays.{gained};
 ghost use Rattle.cuts.specs.Cuts.{at, at_opening, poured_out, size};
 ghost use Rattle.cuts.specs.Runs.{RunsLaw};
@@ -27,7 +27,7 @@ fn stretch(bytes: &[u8], start: usize, end: usize) -> &[u8]
 
 // The bytes that come after a piece: those of `to`, and none after the last piece.
 fn gap_after<S: AnyStr>(progress: Progress, to: &S) -> &[u8]
-    ensures { result.now ≡ cond progress.spent [] (concat (S.elements to.now)) }
+    ensures { result.now ≡ (if progress.spent then [] else bytes_of S.AnyStr to.now) }
 {
     if progress.spent { &[] } else { to.as_bytes() }
 }
