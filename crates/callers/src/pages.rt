@@ -1,6 +1,6 @@
 // Rows written into a caller's memory.
 ghost use Rattle.std.specs.Prelude.{◌≡◌};
-ghost use Rattle.std.specs.List.{concat};
+ghost use Rattle.anystr.specs.Texts.{bytes_of};
 ghost use Rattle.cuts.specs.Cuts.{at_opening, needed};
 ghost use Rattle.cutters.specs.Calls.{opening_of};
 ghost use Rattle.callers.specs.Pages.{IsWritten};
@@ -30,8 +30,8 @@ pub fn label_or_page<S: AnyStr, F: Searcher<S> + Drop>(
     label: &mut Label,
     page: &mut [u8],
 ) -> Result<Written, Refusal>
-    ensures { IsWritten (needed (opening_of S.AnyStr F.Searcher row searcher UNBOUNDED) (concat (S.elements gap.now)) at_opening)
-        label.old label.new page.old page.new result }
+    ensures { IsWritten (needed (opening_of S.AnyStr F.Searcher row searcher UNBOUNDED)
+        (bytes_of S.AnyStr gap.now) at_opening) label.old label.new page.old page.new result }
 {
     let mut fields = Cutter::open(row, searcher, UNBOUNDED);
     let Err(_) = fields.pour(gap, label) else {

@@ -67,8 +67,8 @@ module _ {S C : Type 0} (s : AnyStr.Ghosts S C) where
       × Played on calls (map contents trays) (take (length calls) answers') (map contents trays')
       × (drop (length calls) answers' ≡ drop (length calls) answers)
   PlaysOut contents on calls trays trays' answers answers' (Err e) =
-      (length answers < length calls) × (code e ≡ code (TooSmall (length calls))) × (answers' ≡ answers) ×
-      (trays' ≡ trays)
+      (length answers < length calls) × (code e ≡ code (TooSmall (length calls))) × (answers' ≡ answers)
+      × (trays' ≡ trays)
 
   -- the pieces that the answers give lie on boundaries of the text, if the calls were made
   abbrev pub PlaysOn : S → List (Call S C) → List Answer → Result (Unit {0}) Refusal → Type 0
