@@ -11,7 +11,8 @@ use Rattle.cutters.specs.declared.cutter.Cutter.{Cutter}
 use Rattle.cutters.specs.declared.piece.Piece.{Piece}
 use Rattle.callers.specs.Rests.{RestsAfterTwo}
 
-pub rests_after_two : {S F C : Type 0} {s : AnyStr.Ghosts S C} {f : Searcher.Ghosts F S C} (on : Opening) (c d e : Cutter S F C s f) (p q : Option Piece) (r : Piece)
+pub rests_after_two : {S F C : Type 0} {s : AnyStr.Ghosts S C} {f : Searcher.Ghosts F S C} (on : Opening)
+    (c d e : Cutter S F C s f) (p q : Option Piece) (r : Piece)
     → opening c ≡ on → state c ≡ at_opening → RunsLaw (opening c) → NextStep c p d → NextStep d q e → Rests e r
     → RestsAfterTwo on r
 rests_after_two on c d e p q r is start law one two rest =

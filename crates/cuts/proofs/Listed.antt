@@ -11,8 +11,8 @@ use Rattle.cuts.proofs.Greedy.{Few, Greedy, greedy_one}
 -- none
 abbrev IsMarkAt : Marks → ℕ → ℕ → ℕ → List Span → Type 0
 IsMarkAt marks a e n ms =
-    ((ms ≡ []) × ((d : ℕ) → e ≤ d → d < e + n → IsTrue (marks a d) → ⊥)) ⊎
-    ((d : ℕ) × (ms ≡ (a, d) ∷ []) × IsTrue (marks a d))
+    ((ms ≡ []) × ((d : ℕ) → e ≤ d → d < e + n → IsTrue (marks a d) → ⊥))
+    ⊎ ((d : ℕ) × (ms ≡ (a, d) ∷ []) × IsTrue (marks a d))
 
 -- one end more is looked at
 mark_at_more : (marks : Marks) (a e n : ℕ) (ms : List Span) → IsMarkAt marks a (suc e) n ms → (b : Bool) → marks a e ≡ b

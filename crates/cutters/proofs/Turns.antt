@@ -16,7 +16,8 @@ use Rattle.cutters.proofs.Same.{step_on}
 
 module _ (on : Opening) (law : Lawful on.marks (size on)) (to : List ℕ) where
   -- the bytes of a piece, those of `to` unless it is the last, and then the bytes that are still to come
-  pub turn : (s t : State) (p : Span) → Step on s (next (Some p)) t → (bytes piece gap : List ℕ) → bytes ≡ on.bytes → piece ≡ take (p.1 - p.0) (drop p.0 bytes) → gap ≡ cond t.spent [] to
+  pub turn : (s t : State) (p : Span) → Step on s (next (Some p)) t → (bytes piece gap : List ℕ) → bytes ≡ on.bytes
+      → piece ≡ take (p.1 - p.0) (drop p.0 bytes) → gap ≡ cond t.spent [] to
       → to_pour on to s ≡ piece ++ (gap ++ to_pour on to t)
   turn s t p st bytes piece gap eb ep eg =
       (gave on law s.place s.made s.spent p t st).pour to
@@ -29,9 +30,14 @@ module _ (on : Opening) (law : Lawful on.marks (size on)) (to : List ℕ) where
       by true = omega arith
       by false = poured_fits on law to s.made s.place few short
 
-module _ {S F C : Type 0} {s : AnyStr.Ghosts S C} {f : Searcher.Ghosts F S C} (k here after : Cutter S F C s f) (p : Span) where
-  -- the same of a cutter that was opened as `k`, and whose next gave the piece
-  pub turned : Lawful (f.marks k.searcher (s.elements k.text)) (length (concat (s.elements k.text))) → SameOpening k here → Step (opening here) (state here) (next (Some p)) (state after)
-      → (to bytes piece gap : List ℕ) → bytes ≡ concat (s.elements k.text) → piece ≡ take (p.1 - p.0) (drop p.0 bytes) → gap ≡ cond after.progress.spent [] to
-      → to_pour (opening k) to (state here) ≡ piece ++ (gap ++ to_pour (opening k) to (state after))
-  turned law same step to bytes piece gap = turn (opening k) law to (state here) (state after) p (step_on k here after p same step) bytes piece gap
+module _
+    {S F C : Type 0} {s : AnyStr.Ghosts S C} {f : Searcher.Ghosts F S C} (k here after : Cutter S F C s f) (p : Span)
+  where
+    -- the same of a cutter that was opened as `k`, and whose next gave the piece
+    pub turned : Lawful (f.marks k.searcher (s.elements k.text)) (length (concat (s.elements k.text)))
+        → SameOpening k here → Step (opening here) (state here) (next (Some p)) (state after)
+        → (to bytes piece gap : List ℕ) → bytes ≡ concat (s.elements k.text) → piece ≡ take (p.1 - p.0) (drop p.0 bytes)
+        → gap ≡ cond after.progress.spent [] to
+        → to_pour (opening k) to (state here) ≡ piece ++ (gap ++ to_pour (opening k) to (state after))
+    turned law same step to bytes piece gap =
+        turn (opening k) law to (state here) (state after) p (step_on k here after p same step) bytes piece gap

@@ -10,7 +10,7 @@ use Rattle.searchers.specs.Marks.{Span}
 use Rattle.searchers.specs.substring.Occurrences.{occurrence, occurrence-is, occurrence-lawful}
 use Rattle.cuts.specs.Runs.{In}
 use Rattle.cuts.specs.Splits.{SplitBy}
-use Rattle.cuts.proofs.Splits.{split-rule, rsplit-rule, split-restores, split-on}
+use Rattle.cuts.proofs.Splits.{split-rule, rsplit-rule, split_restores, split_on}
 use Rattle.anystr.proofs.Boundaries.{end_on}
 use Rattle.bytesinner.specs.Written.{OfWritten, Cuttable}
 use Rattle.bytesinner.specs.splits.Separated.{unless_empty, split_of, rsplit_of, SplitFront, SplitBack, Restore}
@@ -58,13 +58,13 @@ module _ (Rule : List Span → Type 0) (es : List (List ℕ)) (sep : List ℕ) (
 
   cuttable : Cuttable es ps
   cuttable p h =
-      let on = split-on (Boundary es) Rule (length (concat es)) ps (0, refl) (end_on es) bounded by p h in
+      let on = split_on (Boundary es) Rule (length (concat es)) ps (0, refl) (end_on es) bounded by p h in
       record { order = on.0; start = on.1; end = on.2 }
 
   kept : (list list' : List Place) (r : Result ℕ Refusal) → Lists (unless_empty sep ps) list list' r
       → Kept (SplitBy Rule (length (concat es))) es sep list' r
   kept list list' r h =
-      let restores = split-restores Rule sep (concat es) ps read by in
+      let restores = split_restores Rule sep (concat es) ps read by in
       record {
         rule = split_written (SplitBy Rule (length (concat es))) sep ps by list list' r h;
         restores = split_written (Restore (concat es) sep) sep ps restores list list' r h;

@@ -10,7 +10,8 @@ use anystr::refusal::Refusal;
 
 /// Whether a list has room for so many places; refused (7, with their number) where it has fewer entries.
 pub fn room(needed: usize, places: &[Place]) -> Result<usize, Refusal>
-    ensures { coded result ≡ (if nat_le needed (length places.now) then Ok needed else Err (7, needed)) }
+    ensures { coded result
+        ≡ (if nat_le needed (length places.now) then Ok needed else Err (7, needed)) }
 {
     if needed <= places.len() {
         Ok(needed)

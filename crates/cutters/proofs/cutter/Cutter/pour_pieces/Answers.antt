@@ -14,12 +14,24 @@ append-requires-clause-few g c =
     let text = c.args.self.now.text in
     let piece = c.in-Some.piece in
     let bytes = c.as_bytes-bytes.result.now in
-    omega (arith, g.S.AnyStr.few text, ap length c.as_bytes-bytes.ensures, ap length c.stretch.ensures, length-take (piece.end - piece.start) (drop piece.start bytes), length-drop piece.start bytes)
+    omega (
+      arith,
+      g.S.AnyStr.few text,
+      ap length c.as_bytes-bytes.ensures,
+      ap length c.stretch.ensures,
+      length-take (piece.end - piece.start) (drop piece.start bytes),
+      length-drop piece.start bytes,
+    )
 
 pub append-requires-in-Some-clause-few : goal.append-requires-in-Some-clause-few
 append-requires-in-Some-clause-few g c =
     let to = c.args.to.now in
-    omega (arith, g.S.AnyStr.few to, ap length c.gap_after.ensures, gap_short c.next.new.self.progress.spent (concat (g.S.AnyStr.elements to)))
+    omega (
+      arith,
+      g.S.AnyStr.few to,
+      ap length c.gap_after.ensures,
+      gap_short c.next.new.self.progress.spent (concat (g.S.AnyStr.elements to)),
+    )
 
 pub append-requires-clause-fits : goal.append-requires-clause-fits
 append-requires-clause-fits g c =
@@ -30,7 +42,9 @@ append-requires-clause-fits g c =
     let inv = c.loop-piece.invariant in
     let to = concat (g.S.AnyStr.elements c.args.to.now) in
     let left = to_pour (opening k) to (state after) in
-    piece-fits _ _ c.stretch.result.now (cond after.progress.spent [] to) left _ inv.poured (turned k here after (span c.in-Some.piece) law inv.same c.in-Some.ensures.step _ c.as_bytes-bytes.result.now _ _ c.as_bytes-bytes.ensures c.stretch.ensures refl)
+    piece-fits _ _ c.stretch.result.now (cond after.progress.spent [] to) left _ inv.poured
+    (turned k here after (span c.in-Some.piece) law inv.same c.in-Some.ensures.step _ c.as_bytes-bytes.result.now _ _
+    c.as_bytes-bytes.ensures c.stretch.ensures refl)
 
 pub append-requires-in-Some-clause-fits : goal.append-requires-in-Some-clause-fits
 append-requires-in-Some-clause-fits g c =
@@ -39,7 +53,9 @@ append-requires-in-Some-clause-fits g c =
     let after = c.next.new.self in
     let law = g.met.F.Searcher.lawful k.searcher k.text in
     let inv = c.loop-piece.invariant in
-    let parts = turned k here after (span c.in-Some.piece) law inv.same c.in-Some.ensures.step _ c.as_bytes-bytes.result.now _ _ c.as_bytes-bytes.ensures c.stretch.ensures c.gap_after.ensures in
+    let parts =
+    turned k here after (span c.in-Some.piece) law inv.same c.in-Some.ensures.step _ c.as_bytes-bytes.result.now _ _
+    c.as_bytes-bytes.ensures c.stretch.ensures c.gap_after.ensures in
     let left = to_pour (opening k) (concat (g.S.AnyStr.elements c.args.to.now)) (state after) in
     gap_fits _ _ c.stretch.result.now c.gap_after.result.now left _ inv.poured parts _ c.append.ensures.gained
 
@@ -49,8 +65,11 @@ loop-piece-smaller g c =
     let here = c.loop-piece.self in
     let after = c.next.new.self in
     let on = opening k in
-    let st = step_on k here after (span c.in-Some.piece) c.loop-piece.invariant.same c.in-Some.ensures.step in
-    omega (arith, (gave on (g.met.F.Searcher.lawful k.searcher k.text) here.progress.place here.progress.made here.progress.spent (span c.in-Some.piece) (state after) st).left)
+    let law = g.met.F.Searcher.lawful k.searcher k.text in
+    let p = span c.in-Some.piece in
+    let q = here.progress in
+    let st = step_on k here after p c.loop-piece.invariant.same c.in-Some.ensures.step in
+    omega (arith, (gave on law q.place q.made q.spent p (state after) st).left)
 
 pub loop-piece-preserved : goal.loop-piece-preserved
 loop-piece-preserved g c =
@@ -66,12 +85,17 @@ loop-piece-preserved g c =
     let piece = c.stretch.result.now in
     let gap = c.gap_after.result.now in
     let left = to_pour on to (state after) in
-    let parts = turned k here after (span c.in-Some.piece) law inv.same c.in-Some.ensures.step _ c.as_bytes-bytes.result.now piece gap c.as_bytes-bytes.ensures c.stretch.ensures c.gap_after.ensures in
+    let parts =
+    turned k here after (span c.in-Some.piece) law inv.same c.in-Some.ensures.step _ c.as_bytes-bytes.result.now
+    piece gap c.as_bytes-bytes.ensures c.stretch.ensures c.gap_after.ensures in
     let one = gave on law here.progress.place here.progress.made here.progress.spent p (state after) st in
     let contents = g.T.AnyStrContainer.contents in
     let full = gained (contents c.args.tray.now) (to_pour on to (state k)) in
     record {
-      poured = gap_poured (contents c.loop-piece.tray) (to_pour on to (state here)) piece gap left full inv.poured parts (contents c.append.new.tray) c.append.ensures.gained (contents c.append-in-Some.new.tray) c.append-in-Some.ensures.gained;
+      poured =
+          gap_poured (contents c.loop-piece.tray) (to_pour on to (state here)) piece gap left full inv.poured parts
+          (contents c.append.new.tray) c.append.ensures.gained (contents c.append-in-Some.new.tray)
+          c.append-in-Some.ensures.gained;
       same_loan = c.append-in-Some.ensures.same_loan ∙ (c.append.ensures.same_loan ∙ inv.same_loan);
       made = sym one.made_all ∙ inv.made;
       ended = one.ended;

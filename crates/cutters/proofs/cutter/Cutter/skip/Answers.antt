@@ -18,7 +18,9 @@ loop-left-preserved g c =
     let e = c.in-Some.ensures in
     let st = step_on k here after (span c.in-Some.field-0) inv.2 e.step in
     let one = (gave on law here.progress.place here.progress.made here.progress.spent _ (state after) st).left in (
-      st.1 ∙ ((λ i. (next_of on (inv.0 i)).1) ∙ (sym (nexts_more on n (state k)) ∙ (λ i. nexts on (sym (add-one n) i) (state k)))),
+      st.1
+          ∙ ((λ i. (next_of on (inv.0 i)).1)
+          ∙ (sym (nexts_more on n (state k)) ∙ (λ i. nexts on (sym (add-one n) i) (state k)))),
       omega (arith, inv.1),
       same_again k here after inv.2 e.same,
     )
@@ -29,5 +31,7 @@ loop-left-init g c = (refl, omega arith, record { text = refl; searcher = refl; 
 pub returns-clause-step : goal.returns-clause-step
 returns-clause-step g c =
     let k = c.args.self.now in
-    let all : c.loop-left.left ≡ c.args.n = omega arith in
-    (skip_passes (opening k) c.args.n (state k) (omega (arith, all)), c.loop-left.invariant.0 ∙ ap (λ n. nexts (opening k) n (state k)) all)
+    let all : c.loop-left.left ≡ c.args.n = omega arith in (
+      skip_passes (opening k) c.args.n (state k) (omega (arith, all)),
+      c.loop-left.invariant.0 ∙ ap (λ n. nexts (opening k) n (state k)) all,
+    )
