@@ -18,12 +18,15 @@ module _ (on : Opening) (law : Lawful on.marks (size on)) where
   end-law = mirror-lawful on.marks (size on) law
 
   pub back_few : size on ≤ most_bytes → (s : State) → length (left_back on s) ≤ suc most_bytes
-  back_few few s = omega (arith, length-map (pieces_left (mirrored_opening on) s) (flip (size on)), pieces_few (mirrored_opening on) end-law few s)
+  back_few few s =
+      let turned = length-map (pieces_left (mirrored_opening on) s) (flip (size on)) in
+      omega (arith, turned, pieces_few (mirrored_opening on) end-law few s)
 
   -- the next piece is the first of those that are left
   pub back_yields : (place made : ℕ) (spent : Bool)
       → GivesFirst (left_back on) (at place made spent) (next_back on (at place made spent))
-  back_yields place made spent = turned (next_of (mirrored_opening on) s).0 (next_yields (mirrored_opening on) end-law place made spent)
+  back_yields place made spent =
+      turned (next_of (mirrored_opening on) s).0 (next_yields (mirrored_opening on) end-law place made spent)
     where
       s : State
       s = at place made spent
@@ -65,10 +68,12 @@ module _ (on : Opening) (law : Lawful on.marks (size on)) where
 
     pub back_none : NoneBefore on.marks place → Comes (0, place) (at (size on) made true)
     back_none none =
-        comes_last (none_found (mirrored_opening on) end-law made seen (mirror-none on.marks (size on) law place within none))
+        let none_seen = mirror-none on.marks (size on) law place within none in
+        comes_last (none_found (mirrored_opening on) end-law made seen none_seen)
 
     pub back_cut : (a e : ℕ) → Few on.bound made → Greatest on.marks place a e
         → Comes (e, place) (at (size on - a) (suc made) false)
     back_cut a e few g =
         let least = mirror-least on.marks (size on) law place a e within g in
-        comes e _ (law.within a e g.is) (next_cut (mirrored_opening on) end-law made seen (size on - e) (size on - a) few least)
+        comes e _ (law.within a e g.is)
+        (next_cut (mirrored_opening on) end-law made seen (size on - e) (size on - a) few least)

@@ -1,5 +1,6 @@
 -- The number of cuts, by what a search answers and by the rule of a cutter.
-use Rattle.std.proofs.Common.{◌≡◌, ℕ, zero, suc, ◌+◌, ◌<◌, ◌≤◌, leb, List, [], ◌∷◌, length, sym, ap, ◌∙◌, subst, arith}
+use Rattle.std.proofs.Common.{◌≡◌, ℕ, zero, suc, ◌+◌, ◌<◌, ◌≤◌, leb, List, [], ◌∷◌, length}
+use Rattle.std.proofs.Common.{refl, sym, ap, ◌∙◌, subst, arith}
 use Rattle.std.proofs.lemmas.List.{nil_from_length}
 use Rattle.std.proofs.lemmas.Bool.{le-leb, lt-leb, cond-true, cond-false, leb-false, cond_both}
 use Rattle.searchers.specs.Marks.{Span, CutTimes}
@@ -9,7 +10,7 @@ use Rattle.cuts.specs.Runs.{CutRule}
 use Rattle.cuts.proofs.Found.{cut_found, none_found}
 use Rattle.cuts.proofs.Greedy.{greedy_rule}
 use Rattle.cuts.proofs.Listed.{greedy_cuts}
-use Rattle.cuts.proofs.Reach.{to_the_end, length-marks}
+use Rattle.cuts.proofs.Reach.{to_the_end, length-marks_of}
 use Rattle.bytesinner.specs.Openings.{unbounded, opening_at}
 use Rattle.bytesinner.specs.finds.Counts.{times, count_of, CutUp, Number}
 use Rattle.anystr.specs.Places.{part}
@@ -38,7 +39,7 @@ cut_up n bs =
       tail = end.1;
       lie = end.3;
       rule = subst (λ (cut : List Span). CutRule (occurrence n bs) unbounded (length bs) cut) end.2 rule;
-      number = sym (ap length end.2 ∙ length-marks end.0);
+      number = sym (ap length end.2 ∙ length-marks_of end.0);
     }
 
 pub count-empty : (bs n : List ℕ) (a b : ℕ) → a ≤ b → length n ≡ 0 → length (part bs (a, b)) + 1 ≡ count_of bs n a b

@@ -50,7 +50,8 @@ over_space i (b ∷ bs) = front b bs true (λ n. runs_from i i (b ∷ bs) ≡ ru
 -- the stretch under way goes on to the next whitespace
 through_run : (from i : ℕ) (bs : List ℕ)
     → runs_from from i bs
-    ≡ run from (i + stretch_len bs false) ++ runs_from (i + stretch_len bs false) (i + stretch_len bs false) (drop (stretch_len bs false) bs)
+    ≡ run from (i + stretch_len bs false)
+    ++ runs_from (i + stretch_len bs false) (i + stretch_len bs false) (drop (stretch_len bs false) bs)
 through_run from i [] =
     let z : i ≡ i + 0 = omega arith in
     sym (append-nil (run from i)) ∙ ((λ k. run from i ++ sym (no_run i) k) ∙ ap (λ (k : ℕ). run from k ++ run k k) z)

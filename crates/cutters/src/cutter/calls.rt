@@ -1,5 +1,6 @@
 // The calls on a cutter.
-ghost use Rattle.std.specs.Prelude.{◌≡◌, ◌-◌, ◌≤◌, true, false, if◌then◌else◌, [], length, take, drop};
+ghost use Rattle.std.specs.Prelude.{◌≡◌, ◌-◌, ◌≤◌, true, false, if◌then◌else◌};
+ghost use Rattle.std.specs.Prelude.{[], length, take, drop};
 ghost use Rattle.std.specs.Prelude.{Some};
 ghost use Rattle.anystr.specs.Limits.{most_bytes};
 ghost use Rattle.anystr.specs.Texts.{bytes_of};

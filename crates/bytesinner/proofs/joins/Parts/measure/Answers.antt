@@ -30,7 +30,8 @@ loop-index-init g c =
     let parts = c.args.self.now in (
       refl,
       rw (c.saturating_sub-gaps.ensures, c.bytes_len.ensures) (sym
-          (join-sum (concat (g.S.AnyStr.elements parts.sep)) (concat (g.S.AnyStr.elements parts.text)) parts.places.now)),
+          (join-sum (concat (g.S.AnyStr.elements parts.sep)) (concat (g.S.AnyStr.elements parts.text))
+          parts.places.now)),
     )
 
 pub overflow_add-sum : goal.overflow_add-sum

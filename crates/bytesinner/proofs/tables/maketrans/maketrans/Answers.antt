@@ -71,11 +71,13 @@ returns g c =
     let inv = c.loop-key.invariant in
     let pairs = YieldsList-from_zip (YieldsList-from_rev_slice from cc) (YieldsList-from_rev_slice to cc) in
     let end =
-    YieldsList-end pairs c.loop-key.yielded _ c.loop-key.yielded_by _ c.next.new.self c.in-None.is c.next.ensures.steps in
+    YieldsList-end pairs c.loop-key.yielded _ c.loop-key.yielded_by _ c.next.new.self c.in-None.is
+    c.next.ensures.steps in
     let table = c.loop-key.table in
     let made : table ≡ table_from from to =
     partners_all table from to (length from - length c.loop-key.yielded)
-    (omega (arith, end.1, length-zip (reverse from) (reverse to), length-reverse from, length-reverse to)) inv.0 inv.2 in
+    (omega (arith, end.1, length-zip (reverse from) (reverse to), length-reverse from, length-reverse to))
+    inv.0 inv.2 in
     let shown : concat (singles c.new.result.bytes.now) ≡ table_from from to =
     ap concat (c.new.ensures.given (omega (arith, inv.0))) ∙ (concat-singles table ∙ made) in
     let p = rw shown at c.push_str.ensures.fills in

@@ -10,5 +10,11 @@ invariant_of-stretch g c =
     }
 
 pub returns-clause-answer : goal.returns-clause-answer
-returns-clause-answer g c =
-    (_, _, meant c.args.self c.args.text.now _ (needle_bytes c.in_ok-needle.needle) c.as_bytes.result.now c.new.result.bytes.now c.bytes_len.result refl c.in_ok-needle.ensures c.bytes_len.ensures c.as_bytes.ensures c.new.ensures.given, c.search.ensures)
+returns-clause-answer g c = (
+  _,
+  _,
+  meant c.args.self c.args.text.now _ (needle_bytes c.in_ok-needle.needle) c.as_bytes.result.now
+      c.new.result.bytes.now c.bytes_len.result refl c.in_ok-needle.ensures c.bytes_len.ensures c.as_bytes.ensures
+      c.new.ensures.given,
+  c.search.ensures,
+)

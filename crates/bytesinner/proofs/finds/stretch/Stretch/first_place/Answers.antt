@@ -25,7 +25,8 @@ returns c =
     let s = c.args.self.now in
     let m = c.in_ok-mark.mark in
     let least = simp concat-singles at (rw (c.new.ensures, c.in_ok-part.ensures.bytes) at c.in_ok-mark.ensures.value) in
-    found s.text.bytes.now c.args.needle.bytes.now s.range.end s.within s.range.start c.in_ok-part.ensures.order m.start m.end least
+    found s.text.bytes.now c.args.needle.bytes.now s.range.end s.within s.range.start c.in_ok-part.ensures.order
+    m.start m.end least
 
 pub overflow_add-result : goal.overflow_add-result
 overflow_add-result c =

@@ -38,7 +38,8 @@ returns c =
     ∙ length_part s.text.bytes.now s.range.start s.range.end s.within) in
     let greatest =
     simp concat-singles at (rw (c.new.ensures, c.in_ok-part.ensures.bytes, long) at c.in_ok-mark.ensures.value) in
-    found_back s.text.bytes.now c.args.needle.bytes.now s.range.end s.within s.range.start c.in_ok-part.ensures.order m.start m.end greatest
+    found_back s.text.bytes.now c.args.needle.bytes.now s.range.end s.within s.range.start
+    c.in_ok-part.ensures.order m.start m.end greatest
 
 pub overflow_add-result : goal.overflow_add-result
 overflow_add-result c =
