@@ -8,7 +8,7 @@ use Rattle.searchers.specs.Marks.{Span, Lawful}
 use Rattle.searchers.specs.declared.searcher.Searcher
 use Rattle.cuts.specs.Cuts.{Opening, size, State, at}
 use Rattle.cuts.specs.Runs.{Step, next}
-use Rattle.cuts.proofs.Left.{to_pour, gave}
+use Rattle.cuts.proofs.Left.{to_pour, Gave, gave}
 use Rattle.cuts.proofs.Sizes.{poured_fits}
 use Rattle.cutters.specs.Calls.{opening, state, SameOpening}
 use Rattle.cutters.specs.declared.cutter.Cutter.{Cutter}
@@ -33,7 +33,15 @@ module _ (on : Opening) (law : Lawful on.marks (size on)) (to : List ℕ) where
 module _
     {S F C : Type 0} {s : AnyStr.Ghosts S C} {f : Searcher.Ghosts F S C} (k here after : Cutter S F C s f) (p : Span)
   where
-    -- the same of a cutter that was opened as `k`, and whose next gave the piece
+    -- what next gave of a cutter that was opened as `k`
+    pub gave_on : Lawful (f.marks k.searcher (s.elements k.text)) (length (concat (s.elements k.text)))
+        → SameOpening k here → Step (opening here) (state here) (next (Some p)) (state after)
+        → Gave (opening k) (state here) p (state after)
+    gave_on law same step =
+        let q = here.progress in
+        gave (opening k) law q.place q.made q.spent p (state after) (step_on k here after p same step)
+
+    -- and how the bytes to come begin with the piece
     pub turned : Lawful (f.marks k.searcher (s.elements k.text)) (length (concat (s.elements k.text)))
         → SameOpening k here → Step (opening here) (state here) (next (Some p)) (state after)
         → (to bytes piece gap : List ℕ) → bytes ≡ concat (s.elements k.text) → piece ≡ take (p.1 - p.0) (drop p.0 bytes)

@@ -2,11 +2,11 @@ use Rattle.std.proofs.Common.{◌-◌, cond, [], length, drop, sym, refl, ap, �
 use Rattle.std.proofs.lemmas.List.{length-take}
 use Rattle.std.specs.List.{concat}
 use Rattle.trays.specs.Trays.{gained}
-use Rattle.cuts.proofs.Left.{to_pour, gave}
+use Rattle.cuts.proofs.Left.{to_pour}
 use Rattle.cutters.specs.Calls.{opening, state, span}
 use Rattle.cutters.proofs.Pouring.{piece-fits, gap_fits, gap_poured, gap_short}
-use Rattle.cutters.proofs.Same.{same_again, step_on}
-use Rattle.cutters.proofs.Turns.{turned}
+use Rattle.cutters.proofs.Same.{same_again}
+use Rattle.cutters.proofs.Turns.{gave_on, turned}
 use Rattle.cutters.proofs.cutter.Cutter.pour_pieces.Goals as goal
 
 pub append-requires-clause-few : goal.append-requires-clause-few
@@ -62,14 +62,9 @@ append-requires-in-Some-clause-fits g c =
 pub loop-piece-smaller : goal.loop-piece-smaller
 loop-piece-smaller g c =
     let k = c.args.self.now in
-    let here = c.loop-piece.self in
-    let after = c.next.new.self in
-    let on = opening k in
     let law = g.met.F.Searcher.lawful k.searcher k.text in
-    let p = span c.in-Some.piece in
-    let q = here.progress in
-    let st = step_on k here after p c.loop-piece.invariant.same c.in-Some.ensures.step in
-    omega (arith, (gave on law q.place q.made q.spent p (state after) st).left)
+    let same = c.loop-piece.invariant.same in
+    omega (arith, (gave_on k c.loop-piece.self c.next.new.self _ law same c.in-Some.ensures.step).left)
 
 pub loop-piece-preserved : goal.loop-piece-preserved
 loop-piece-preserved g c =
@@ -79,16 +74,14 @@ loop-piece-preserved g c =
     let to = concat (g.S.AnyStr.elements c.args.to.now) in
     let on = opening k in
     let law = g.met.F.Searcher.lawful k.searcher k.text in
-    let p = span c.in-Some.piece in
     let inv = c.loop-piece.invariant in
-    let st = step_on k here after p inv.same c.in-Some.ensures.step in
     let piece = c.stretch.result.now in
     let gap = c.gap_after.result.now in
     let left = to_pour on to (state after) in
     let parts =
     turned k here after (span c.in-Some.piece) law inv.same c.in-Some.ensures.step _ c.as_bytes-bytes.result.now
     piece gap c.as_bytes-bytes.ensures c.stretch.ensures c.gap_after.ensures in
-    let one = gave on law here.progress.place here.progress.made here.progress.spent p (state after) st in
+    let one = gave_on k here after _ law inv.same c.in-Some.ensures.step in
     let contents = g.T.AnyStrContainer.contents in
     let full = gained (contents c.args.tray.now) (to_pour on to (state k)) in
     record {
