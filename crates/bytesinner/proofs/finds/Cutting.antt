@@ -25,10 +25,12 @@ cuts-are n bs made place (suc k) (s, e, least, rest) =
     ap length (cut_found (opening_at bs n unbounded) (occurrence-lawful n bs) made place s e refl least)
     ∙ ap suc (cuts-are n bs (suc made) e k rest)
 
+-- so many times the needle is cut
 times-are : (n bs : List ℕ) (k : ℕ) → 0 < length n → CutTimes (occurrence n bs) 0 k → k ≡ times n bs
 times-are [] bs k some cut = absurd (omega arith)
 times-are (x ∷ n) bs k some cut = sym (cuts-are (x ∷ n) bs 0 0 k cut)
 
+-- the cuts cut up the bytes
 cut_up : (n bs : List ℕ) → CutUp n bs (length (cut_from (opening_at bs n unbounded) 0 0))
 cut_up n bs =
     let law = occurrence-lawful n bs in
@@ -42,6 +44,7 @@ cut_up n bs =
       number = sym (ap length end.2 ∙ length-marks_of end.0);
     }
 
+-- the count of an empty needle, and of one that is not
 pub count-empty : (bs n : List ℕ) (a b : ℕ) → a ≤ b → length n ≡ 0 → length (part bs (a, b)) + 1 ≡ count_of bs n a b
 count-empty bs [] a b le none = omega (arith, cond-true (leb a b) (suc (length (part bs (a, b)))) 0 (le-leb a b le))
 count-empty bs (x ∷ n) a b le none = absurd (omega arith)
@@ -58,15 +61,13 @@ number bs [] a b within = (
   λ past. cond-false (leb a b) _ _ (lt-leb a b past),
 )
 number bs (x ∷ n) a b within =
-    let k = length (cut_from (opening_at (part bs (a, b)) (x ∷ n) unbounded) 0 0) in
-    let empty : b < a → 0 ≡ k =
-    λ past. sym
-    (ap (λ (p : List ℕ). length (cut_from (opening_at p (x ∷ n) unbounded) 0 0))
-    (nil_from_length (part bs (a, b)) (omega (arith, length_part bs a b within)))) in
-    let P : ℕ → Type 0 = λ m. CutUp (x ∷ n) (part bs (a, b)) m in
-    cond_both (leb a b) k 0 P
-    (λ _. cut_up (x ∷ n) (part bs (a, b)))
-    (λ t. subst P (sym (empty (leb-false a b t))) (cut_up (x ∷ n) (part bs (a, b))))
+    let here = part bs (a, b) in
+    let cut = cut_up (x ∷ n) here in
+    let no_byte : b < a → here ≡ [] = λ past. nil_from_length here (omega (arith, length_part bs a b within)) in
+    cond_both (leb a b) (times (x ∷ n) here) 0 (CutUp (x ∷ n) here)
+    (λ _. cut)
+    (λ past. subst (CutUp (x ∷ n) here) (ap (times (x ∷ n)) (no_byte (leb-false a b past))) cut)
 
+-- so does an answer by it
 pub number_is : (bs n : List ℕ) (a b k : ℕ) → b ≤ length bs → k ≡ count_of bs n a b → Number bs n a b k
 number_is bs n a b k within is = subst (λ (m : ℕ). Number bs n a b m) (sym is) (number bs n a b within)

@@ -21,20 +21,21 @@ pub end-within : (end : Option ℤ) (len : ℕ) → end_of end len ≤ len
 end-within None len = omega arith
 end-within (Some i) len = omega arith
 
-single-short : (r : Result ℕ (ℕ × ℕ)) (n : List ℕ) → byte_needle r ≡ Ok n → length n ≤ most_bytes
-single-short (Ok b) n e = let one : n ≡ b ∷ [] = cc in omega (arith, ap length one)
-single-short (Err c) n e = cc
+-- a needle of one byte is not too long
+byte_needle-short : (r : Result ℕ (ℕ × ℕ)) (n : List ℕ) → byte_needle r ≡ Ok n → length n ≤ most_bytes
+byte_needle-short (Ok b) n e = let one : n ≡ b ∷ [] = cc in omega (arith, ap length one)
+byte_needle-short (Err c) n e = cc
 
--- a needle is not too long
-sub-short : (s : Either (Bor (List ℕ)) ℤ) (n : List ℕ) → sub_of s ≡ Ok n → length n ≤ most_bytes
-sub-short (A bytes) n e = by (leb (length bytes.now) most_bytes) refl e
+-- nor is any that is meant
+sub_of-short : (s : Either (Bor (List ℕ)) ℤ) (n : List ℕ) → sub_of s ≡ Ok n → length n ≤ most_bytes
+sub_of-short (A bytes) n e = by (leb (length bytes.now) most_bytes) refl e
   where
     by : (t : Bool) → leb (length bytes.now) most_bytes ≡ t
         → cond {A = Result (List ℕ) (ℕ × ℕ)} t (Ok bytes.now) (Err (6, 0)) ≡ Ok n → length n ≤ most_bytes
     by true t e =
         let same : n ≡ bytes.now = cc in omega (arith, ap length same, leb-true (length bytes.now) most_bytes t)
     by false t e = cc
-sub-short (B number) n e = single-short (byte_of number) n e
+sub_of-short (B number) n e = byte_needle-short (byte_of number) n e
 
 -- the needle and the offsets in an answer that is not refused
 read_back : (o : ByteInnerFindOptions) (len : ℕ) (n : List ℕ) (a b : ℕ) (s : Result (List ℕ) (ℕ × ℕ)) → sub_of o.sub ≡ s
@@ -53,6 +54,7 @@ module _ (o : ByteInnerFindOptions) (bs needle : List ℕ) (len a b : ℕ)
       read_back o (length bs) needle a b (sub_of o.sub) refl
       (e ∙ ap (answer_in target o) (size ∙ ap length (concat-singles bs)))
 
+  -- the end is within the text
   pub offset-within : b ≤ length bs
   offset-within = omega (arith, from_options.2, end-within o.end (length bs))
 
@@ -63,9 +65,8 @@ pub meant : (o : ByteInnerFindOptions) (text : Bytes) (stretch : Stretch) (needl
     → (length given ≤ most_bytes → singles made ≡ singles given) → Meant o text stretch made
 meant o text stretch needle given made len whole e size is new =
     let m = from_options o text.bytes.now needle len stretch.range.start stretch.range.end e size in
-    let short : length given ≤ most_bytes = omega (arith, ap length is, sub-short o.sub needle m.0) in
-    let same : needle ≡ made =
-    sym (sym (concat-singles made) ∙ (ap concat (new short) ∙ (concat-singles given ∙ is))) in
+    let short : length given ≤ most_bytes = omega (arith, ap length is, sub_of-short o.sub needle m.0) in
+    let same = sym (sym (concat-singles made) ∙ (ap concat (new short) ∙ (concat-singles given ∙ is))) in
     record { whole = whole; sub = m.0 ∙ ap Ok same; start = m.1; end = m.2 }
 
 -- an answer by its rule, and a rule by its answer
@@ -99,10 +100,12 @@ module _ {X : Type 0} (f : List ℕ → List ℕ → ℕ → ℕ → X) (rule : 
       by (Err c) (Ok x) e = cc
       by (Err c) (Err d) e = cc
 
+-- a text of bytes that is told not to be empty, and one that is told to be
 pub some : (n : List ℕ) → false ≡ eqb (length (concat (singles n))) 0 → 0 < length n
 some n e =
     let other = eqb-false (length (concat (singles n))) 0 (sym e) in
-    let same = ap length (concat-singles n) in omega arith
+    let same = ap length (concat-singles n) in
+    omega arith
 
 pub none : (n : List ℕ) → true ≡ eqb (length (concat (singles n))) 0 → length n ≡ 0
 none n e = sym (ap length (concat-singles n)) ∙ eqb-true (length (concat (singles n))) 0 (sym e)

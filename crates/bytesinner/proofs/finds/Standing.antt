@@ -1,6 +1,5 @@
 -- Where a needle stands, by the definitions and by what a search of a part answers.
-use Rattle.std.proofs.Common.{◌≡◌, ℕ, suc, ◌+◌, ◌-◌, ◌<◌, ◌≤◌, Bool, true, false, cond, IsTrue, leb, List, [], ◌∷◌}
-use Rattle.std.proofs.Common.{length}
+use Rattle.std.proofs.Common.{◌≡◌, ℕ, suc, ◌+◌, ◌-◌, ◌<◌, ◌≤◌, Bool, true, false, cond, IsTrue, leb, List, [], ◌∷◌, length}
 use Rattle.std.proofs.Common.{take, drop, Some, None, Option, sym, refl, ap, ◌∙◌, ⊎_elim, le_refl, arith, length-take}
 use Rattle.std.specs.Option.{option_or}
 use Rattle.std.proofs.lemmas.List.{take-take, nil_from_length}
@@ -10,8 +9,8 @@ use Rattle.searchers.specs.Marks.{Least, Greatest, NoneFrom, NoneBefore}
 use Rattle.searchers.specs.substring.Occurrences.{begins_with, occurrence, occurrence-is, taken}
 use Rattle.searchers.proofs.substring.Needles.{begun}
 use Rattle.anystr.specs.Places.{part}
-use Rattle.bytesinner.specs.finds.Places.{first_place, last_place, find_of, rfind_of, Stands, Nowhere, FirstPlace}
-use Rattle.bytesinner.specs.finds.Places.{LastPlace}
+use Rattle.bytesinner.specs.finds.Places.{first_place, last_place, find_of, rfind_of, Stands, Nowhere, PlaceBy}
+use Rattle.bytesinner.specs.finds.Places.{FirstPlace, LastPlace}
 use Rattle.bytesinner.proofs.finds.Parts.{length_part, drop-part}
 
 module _ (bs n : List ℕ) (b : ℕ) (within : b ≤ length bs) where
@@ -59,15 +58,18 @@ module _ (bs n : List ℕ) (b : ℕ) (within : b ≤ length bs) where
   )
   turn_back a le None f false is = λ p s. f p (further a p (not_here a p is s) s)
 
+  -- it stands nowhere from past b on
   nowhere-further : (a : ℕ) → b < a → Nowhere bs n a b
   nowhere-further a past p s = omega (arith, s.after, s.ahead)
 
+  -- the part from the next offset on
   tail : (x : ℕ) (xs : List ℕ) (a : ℕ) → x ∷ xs ≡ part bs (a, b) → (suc a ≤ b) × (xs ≡ part bs (suc a, b))
   tail x xs a e =
       let lt : a + 1 ≤ b = omega (arith, ap length e, length_part bs a b within) in
       let s : a + 1 ≡ suc a = omega arith in
       (omega arith, ap (drop 1) e ∙ (drop-part bs a b 1 lt ∙ ap (λ k. part bs (k, b)) s))
 
+  -- what the definitions give of the part from a on
   first_place-from : (xs : List ℕ) (a : ℕ) → a ≤ b → xs ≡ part bs (a, b) → FirstPlace bs n a b (first_place n xs a)
   first_place-from [] a le e =
       let past : b < suc a = omega (arith, ap length e, length_part bs a b within) in
@@ -103,23 +105,18 @@ module _ (bs n : List ℕ) (b : ℕ) (within : b ≤ length bs) where
       (λ t. nowhere-further a (leb-false a b t))
 
   -- and only their values do
+  one_place : (IsSo : ℕ → ℕ → Type 0) → ((p q : ℕ) → IsSo p q → IsSo q p → p ≡ q) → (a : ℕ) (r q : Option ℕ)
+      → PlaceBy IsSo bs n a b r → PlaceBy IsSo bs n a b q → r ≡ q
+  one_place IsSo same a None None f g = refl
+  one_place IsSo same a None (Some q) f g = absurd (f q g.0)
+  one_place IsSo same a (Some p) None f g = absurd (g p f.0)
+  one_place IsSo same a (Some p) (Some q) f g = ap Some (same p q (f.1 q g.0) (g.1 p f.0))
+
   pub first-is : (a : ℕ) (r : Option ℕ) → FirstPlace bs n a b r → r ≡ find_of bs n a b
-  first-is a r f = one_first a r (find_of bs n a b) f (find_first a)
-    where
-      one_first : (a : ℕ) (r q : Option ℕ) → FirstPlace bs n a b r → FirstPlace bs n a b q → r ≡ q
-      one_first a None None f g = refl
-      one_first a None (Some q) f g = absurd (f q g.0)
-      one_first a (Some p) None f g = absurd (g p f.0)
-      one_first a (Some p) (Some q) f g = let e : p ≡ q = omega (arith, f.1 q g.0, g.1 p f.0) in ap Some e
+  first-is a r f = one_place (λ p q. p ≤ q) (λ p q le ge. omega arith) a r (find_of bs n a b) f (find_first a)
 
   pub last-is : (a : ℕ) (r : Option ℕ) → LastPlace bs n a b r → r ≡ rfind_of bs n a b
-  last-is a r f = one_last a r (rfind_of bs n a b) f (rfind_last a)
-    where
-      one_last : (a : ℕ) (r q : Option ℕ) → LastPlace bs n a b r → LastPlace bs n a b q → r ≡ q
-      one_last a None None f g = refl
-      one_last a None (Some q) f g = absurd (f q g.0)
-      one_last a (Some p) None f g = absurd (g p f.0)
-      one_last a (Some p) (Some q) f g = let e : p ≡ q = omega (arith, f.1 q g.0, g.1 p f.0) in ap Some e
+  last-is a r f = one_place (λ p q. q ≤ p) (λ p q ge le. omega arith) a r (rfind_of bs n a b) f (rfind_last a)
 
   -- an empty needle stands at both ends
   empty-at : (a p : ℕ) → a ≤ p → p ≤ b → length n ≡ 0 → Stands bs n a b p
@@ -135,16 +132,15 @@ module _ (bs n : List ℕ) (b : ℕ) (within : b ≤ length bs) where
 
   -- what a search of the part answers
   module _ (a : ℕ) (le : a ≤ b) where
-    marked : (p : ℕ) → 0 < length n → Stands bs n a b p
-        → IsTrue (occurrence n (part bs (a, b)) (p - a) ((p - a) + length n))
+    -- a place is a mark of the part
+    marked : (p : ℕ) → 0 < length n → Stands bs n a b p → IsTrue (occurrence n (part bs (a, b)) (p - a) ((p - a) + length n))
     marked p some s =
         let back : a + (p - a) ≡ p = omega (arith, s.after) in
-        let begins : begins_with n (drop (p - a) (part bs (a, b))) ≡ true =
-        ap (begins_with n) (drop-part bs a b (p - a) (omega (arith, s.after, s.ahead)) ∙ ap (λ q. part bs (q, b)) back)
-        ∙ stood a p s in
+        let rest = drop-part bs a b (p - a) (omega (arith, s.after, s.ahead)) ∙ ap (λ q. part bs (q, b)) back in
+        let begins = ap (begins_with n) rest ∙ stood a p s in
         (and_from _ _ (lt-ltb 0 (length n) some) (and_from _ _ (eq-eqb _ _ refl) begins))
 
-    -- a mark of the part is a place
+    -- and a mark of the part is a place
     at_mark : (s e : ℕ) → IsTrue (occurrence n (part bs (a, b)) s e) → Stands bs n a b (a + s)
     at_mark s e m =
         let o = occurrence-is n (part bs (a, b)) s e m in

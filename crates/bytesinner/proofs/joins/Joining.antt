@@ -49,8 +49,8 @@ module _ (es : List (List ℕ)) (places : List Place) (i : ℕ) (within : i < le
       → bare (concat es) (stretches (drop i places)) ≡ (place.end - place.start) + bare (concat es) past
   bare_more cut =
       let p = part (concat es) (stretch place) in
-      rw here
-      (omega (arith, length-append p (concat (map (part (concat es)) past)), part-long es place.start place.end cut))
+      let rest = concat (map (part (concat es)) past) in
+      rw here (omega (arith, length-append p rest, part-long es place.start place.end cut))
 
 -- parts with the separator ahead of each
 abbrev behind : List ℕ → List (List ℕ) → List ℕ
@@ -62,10 +62,12 @@ abbrev pub rest_of : List ℕ → ℕ → List (List ℕ) → List ℕ
 rest_of sep zero xs = with_between sep xs
 rest_of sep (suc n) xs = behind sep xs
 
+-- the first part has no separator ahead
 first-ahead : (sep x : List ℕ) (xs : List (List ℕ)) → with_between sep (x ∷ xs) ≡ x ++ behind sep xs
 first-ahead sep x [] = sym (append-nil x)
 first-ahead sep x (y ∷ xs) = ap (λ r. x ++ (sep ++ r)) (first-ahead sep y xs)
 
+-- how many bytes they have
 behind_size : (sep : List ℕ) (xs : List (List ℕ)) → length (behind sep xs) ≡ length (concat xs) + length xs * length sep
 behind_size sep [] = omega (arith, zero-mul (length sep))
 behind_size sep (x ∷ xs) =
@@ -87,6 +89,7 @@ join_size sep (x ∷ xs) =
     rw (first-ahead, count)
     (omega (arith, behind_size sep xs, length-append x (behind sep xs), length-append x (concat xs)))
 
+-- no part has more bytes than the text
 bare_fits : (bytes : List ℕ) (ps : List (ℕ × ℕ)) → bare bytes ps ≤ length ps * length bytes
 bare_fits bytes [] = omega (arith, zero-mul (length bytes))
 bare_fits bytes (p ∷ ps) =
@@ -124,13 +127,14 @@ module _ (sep bytes : List ℕ) (places : List Place) where
 
 -- a push of what comes next is taken
 pub took_next : {X : Type 0} (bytes rest : List ℕ) {before : List ℕ} {tray full : Contents} (tray' : Contents)
-    (r : Result X (ℕ × ℕ)) → before ≡ bytes ++ rest → Pouring tray before full → IsFilled
-    (Ok bytes) tray tray' r → Pouring tray' rest full
+    (r : Result X (ℕ × ℕ)) → before ≡ bytes ++ rest → Pouring tray before full
+    → IsFilled (Ok bytes) tray tray' r → Pouring tray' rest full
 took_next bytes rest {tray = tray} {full = full} tray' r split p push =
     let so_far = rw split at p in
     let fits : length bytes ≤ length tray.spare = omega (arith, so_far.room, length-append bytes rest) in
     pushed tray bytes rest full tray' so_far (took bytes tray tray' r fits push)
 
+-- the part of index 0 comes alone, and each later one behind a separator
 first : (sep x : List ℕ) (xs : List (List ℕ)) (n : ℕ) → n ≤ 0 → rest_of sep n (x ∷ xs) ≡ x ++ behind sep xs
 first sep x xs zero le = first-ahead sep x xs
 first sep x xs (suc n) le = absurd (omega arith)

@@ -14,6 +14,7 @@ abbrev JudgedFrom : List (List ℕ) → ℕ → List (ℕ × ℕ) → Option ℕ
 JudgedFrom es at ps None = (k : ℕ) → k < length ps → Good es (get_or ps k (0, 0))
 JudgedFrom es at ps (Some i) = (j : ℕ) × (i ≡ at + j) × BadAt es ps j
 
+-- good places behind a good one
 first : (es : List (List ℕ)) (p : ℕ × ℕ) (ps : List (ℕ × ℕ)) (n : ℕ) → Good es p
     → ((k : ℕ) → k < n → Good es (get_or ps k (0, 0))) → (k : ℕ) → k < suc n → Good es (get_or (p ∷ ps) k (0, 0))
 first es p ps n good rest zero h = good
@@ -29,6 +30,7 @@ ahead es at p ps good (Some i) (j, is, b) = (
   record { within = omega (arith, b.within); bad = b.bad; before = first es p ps j good b.before },
 )
 
+-- the definition tells the first bad place
 judged-from : (es : List (List ℕ)) (at : ℕ) (ps : List (ℕ × ℕ)) → JudgedFrom es at ps (first_bad es at ps)
 judged-from es at [] = λ k h. absurd (omega arith)
 judged-from es at (p ∷ ps) = by (can_cut es p) refl (judged-from es (suc at) ps)
@@ -41,16 +43,17 @@ judged-from es at (p ∷ ps) = by (can_cut es p) refl (judged-from es (suc at) p
       omega arith,
       record {
         within = omega arith;
-        bad = λ g. false≢true (sym e
-            ∙ cut-true es p g);
+        bad = λ g. false≢true (sym e ∙ cut-true es p g);
         before = λ k h. absurd (omega arith);
       },
     )
 
+-- the same where the first has the index 0
 judged : (es : List (List ℕ)) (ps : List (ℕ × ℕ)) (o : Option ℕ) → JudgedFrom es 0 ps o → Judged es ps o
 judged es ps None all = all
 judged es ps (Some i) (j, is, b) = let same : j ≡ i = omega arith in subst (BadAt es ps) same b
 
+-- the definition keeps the law
 pub join_law : (sep : List ℕ) (es : List (List ℕ)) (ps : List (ℕ × ℕ)) → JoinLaw sep es ps
 join_law sep es ps = record {
   judged = judged es ps (first_bad es 0 ps) (judged-from es 0 ps);

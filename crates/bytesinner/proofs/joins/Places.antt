@@ -8,6 +8,7 @@ use Rattle.anystr.proofs.Boundaries.{boundary_from, boundary_true, offset-within
 use Rattle.bytesinner.specs.joins.Joins.{can_cut, first_bad}
 use Rattle.anystr.specs.Places.{part}
 
+-- a place that passes the test can be cut out, and one that can passes
 pub cut_from : (es : List (List ℕ)) (p : ℕ × ℕ) → can_cut es p ≡ true → Cut es p.0 p.1
 cut_from es p h =
     let t = and_parts _ _ h in

@@ -1,7 +1,6 @@
 -- What the passes of replace leave in the tray.
 use Rattle.std.proofs.Common.{◌≡◌, ℕ, ◌+◌, ◌*◌, ◌≤◌, List, length, ℤ, pos, Ok, Result, sym, ap, ◌∙◌, subst}
 use Rattle.std.specs.List.{concat}
-use Rattle.anystr.specs.Elements.{Filled}
 use Rattle.anystr.specs.Limits.{most_bytes}
 use Rattle.anystr.specs.Refusals.{coded}
 use Rattle.anystr.specs.Texts.{bytes_of}
@@ -14,7 +13,9 @@ use Rattle.trays.specs.Trays.{Contents, Fills, IsFilled}
 use Rattle.cuts.specs.Cuts.{Opening, State, at_opening, needed, pour_of}
 use Rattle.cutters.specs.Calls.{opening, state, Pours}
 use Rattle.cutters.specs.declared.cutter.Cutter.{Cutter}
-use Rattle.bytesinner.specs.replaces.Replaces.{most_result, bound_of, spread_text, copy_count, poured_text, if_short}
+use Rattle.bytesinner.specs.replaces.Replaces.{most_result, bound_of, copy_count, poured_text, if_short}
+use Rattle.bytesinner.specs.replaces.Replacements.{copies_spread}
+use Rattle.bytesinner.specs.declared.replaces.Replacement.{Replacement}
 use Rattle.bytesinner.proofs.replaces.Law.{spread_text-long, spread_text-within, cut-within, short, is-short}
 
 -- a pour from a cutter that was just opened
@@ -32,17 +33,20 @@ pub fills : {X : Type 0} (bytes all : List ℕ) (tray tray' : Contents) (r : Res
     → bytes ≡ all → length all ≤ most_result → IsFilled (Ok all) tray tray' r → IsFilled (if_short bytes) tray tray' r
 fills bytes all tray tray' r same le p = rw (same, is-short all le) p
 
--- the sum that the code forms
-module _ (es : List (List ℕ)) (to : List ℕ) (bound : ℤ) (n len gap : ℕ)
-    (count : n ≡ copy_count (length es) bound) (bytes : len ≡ length (concat es)) (each : gap ≡ length to) where
-  pub spread_text-sum : len + n * gap ≡ length (spread_text to bound 0 es)
-  spread_text-sum = rw (count, bytes, each) (sym (spread_text-long es to bound))
+-- the sum that the code forms of a replacement
+module _ {S C : Type 0} (s : AnyStr.Ghosts S C) (r : Replacement S C) (n len gap : ℕ)
+    (count : n ≡ copy_count (length (s.elements r.text)) r.bound) (bytes : len ≡ length (bytes_of s r.text))
+    (each : gap ≡ length (bytes_of s r.to)) where
+  -- it is the bytes that are made
+  pub copies_spread-sum : len + n * gap ≡ length (copies_spread s r)
+  copies_spread-sum = rw (count, bytes, each) (sym (spread_text-long (s.elements r.text) (bytes_of s r.to) r.bound))
 
-  pub spread_text-fits : Filled es → length (concat es) ≤ most_bytes → length to ≤ most_bytes
-      → len + n * gap ≤ most_result
-  spread_text-fits filled few some =
-      rw spread_text-sum
-      (short (spread_text to bound 0 es) (concat es) to few some (spread_text-within es to bound filled))
+  -- it is not too long
+  pub copies_spread-fits : len + n * gap ≤ most_result
+  copies_spread-fits =
+      let within = spread_text-within (s.elements r.text) (bytes_of s r.to) r.bound (s.filled r.text) in
+      rw copies_spread-sum
+      (short (copies_spread s r) (bytes_of s r.text) (bytes_of s r.to) (s.few r.text) (s.few r.to) within)
 
 -- what is cut out is within the limits
 pub cut_short : (es : List (List ℕ)) (from to : List ℕ) (bound : ℤ) → length (concat es) ≤ most_bytes

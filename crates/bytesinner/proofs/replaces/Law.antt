@@ -16,6 +16,7 @@ use Rattle.bytesinner.proofs.replaces.Spreading.{spread_text-with_copies, length
 use Rattle.bytesinner.proofs.replaces.Spreading.{copy_count-few}
 use Rattle.bytesinner.proofs.replaces.Cutting.{no_cuts, poured-joined}
 
+-- what is replaced, by whether `from` is empty
 at-marks : (es : List (List ℕ)) (from to : List ℕ) (bound : ℤ) → (length from ≡ 0 → ⊥)
     → replaced_text es from to bound ≡ poured_text es from to bound
 at-marks es from to bound some = cond-false _ _ _ (ne_eqb (length from) 0 some)
@@ -32,6 +33,7 @@ spread_text-long es to bound =
     ap length (spread_text-with_copies to bound es)
     ∙ length-with_copies to (copy_count n bound) es (copy_count-few n bound)
 
+-- no more copies come than elements and one
 pub spread_text-within : (es : List (List ℕ)) (to : List ℕ) (bound : ℤ) → Filled es
     → length (spread_text to bound 0 es) ≤ length (concat es) + suc (length (concat es)) * length to
 spread_text-within es to bound filled =
@@ -61,6 +63,7 @@ short bytes all to few some size =
     mul-le-mul {n₂ = suc most_bytes} {m₂ = most_bytes} (omega arith) some in
     omega arith
 
+-- so it is not refused
 pub is-short : (bytes : List ℕ) → length bytes ≤ most_result → if_short bytes ≡ Ok bytes
 is-short bytes le = cond-true _ _ _ (le-leb (length bytes) most_result le)
 
@@ -73,6 +76,7 @@ none-replaced_text es from to = ⊎_elim
     at-marks es from to (pos 0) some ∙ ap (poured (concat es) to 0) (no_cuts 0 0 ms))
     (cases_eq (length from) 0)
 
+-- the definition keeps the law
 pub replace-law : (es : List (List ℕ)) (from to : List ℕ) (bound : ℤ) → Filled es → ReplaceLaw es from to bound
 replace-law es from to bound filled = record {
   split = λ some.

@@ -27,19 +27,19 @@ module _ (to : List ℕ) (es : List (List ℕ)) (count k : ℕ) where
   -- a copy, and the element behind it
   pub copy-ahead : k < count → k < length es → left to es count k ≡ to ++ (get_or es k [] ++ left to es count (k + 1))
   copy-ahead lt within =
-      ap (spread_text to (pos count) k) (drop_more es k [] within)
-      ∙
-      (spread_text-more to count (get_or es k []) (drop (k + 1) es) k lt
-      ∙ ap (λ n. to ++ (get_or es k [] ++ spread_text to (pos count) n (drop (k + 1) es))) (sym (add-one k)))
+      let rest = drop (k + 1) es in
+      let more = spread_text-more to count (get_or es k []) rest k lt in
+      let next = ap (λ n. to ++ (get_or es k [] ++ spread_text to (pos count) n rest)) (sym (add-one k)) in
+      ap (spread_text to (pos count) k) (drop_more es k [] within) ∙ (more ∙ next)
 
   -- the copy at the end
   pub last-copy : k < count → count ≤ suc (length es) → length es ≤ k
       → left to es count k ≡ to ++ left to es count (k + 1)
   last-copy lt few past =
-      let none : left to es count (k + 1) ≡ [] =
-      spread_none to count (drop (k + 1) es) (k + 1) (omega arith) ∙ ap concat (drop_all (k + 1) es (omega arith)) in
-      ap (spread_text to (pos count) k) (drop_all k es past)
-      ∙ (spread_text-last to count k lt ∙ (sym (append-nil to) ∙ ap (λ (b : List ℕ). to ++ b) (sym none)))
+      let rest = drop_all (k + 1) es (omega arith) in
+      let none = spread_none to count (drop (k + 1) es) (k + 1) (omega arith) ∙ ap concat rest in
+      let alone = sym (append-nil to) ∙ ap (λ (b : List ℕ). to ++ b) (sym none) in
+      ap (spread_text to (pos count) k) (drop_all k es past) ∙ (spread_text-last to count k lt ∙ alone)
 
   -- no copy
   pub no-copy : count ≤ k → left to es count k ≡ concat (drop k es) ++ []

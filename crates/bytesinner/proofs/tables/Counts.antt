@@ -4,6 +4,7 @@ use Rattle.std.proofs.lemmas.Bool.Decides.{nat_tests}
 use Rattle.std.proofs.lemmas.List.Sums.{sum_by-cons}
 use Rattle.bytesinner.specs.tables.Translations.{kept_bytes, times}
 
+-- a byte that goes stands there never, and any other as often as in the text
 pub count_kept : (gone : ℕ → Bool) (b : ℕ) (xs : List ℕ) → times b (kept_bytes gone xs) ≡ cond (gone b) 0 (times b xs)
 count_kept gone b [] = grind arith
 count_kept gone b (x ∷ xs) =

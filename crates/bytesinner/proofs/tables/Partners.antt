@@ -25,6 +25,7 @@ partners_none table from to i past same b h =
 -- one position to the left
 module _ (table from to : List ℕ) (i j : ℕ) (next : j ≡ i + 1) (long : length table ≡ byte_values)
     (in-from : i < length from) (in-to : i < length to) (so_far : Partners table from to j) where
+  -- the lists from there on begin with that pair
   at : (b : ℕ)
       → partner (drop i from) (drop i to) b ≡ partner (get_or from i 0 ∷ drop j from) (get_or to i 0 ∷ drop j to) b
   at b =
@@ -32,6 +33,7 @@ module _ (table from to : List ℕ) (i j : ℕ) (next : j ≡ i + 1) (long : len
       let t : drop i to ≡ get_or to i 0 ∷ drop j to = rw next (drop_more to i 0 in-to) in
       ap (λ xs. partner xs (drop i to) b) f ∙ ap (λ ys. partner (get_or from i 0 ∷ drop j from) ys b) t
 
+  -- a table into which it is written
   partners_more : Partners (set table (get_or from i 0) (get_or to i 0)) from to i
   partners_more b h =
       grind (
@@ -51,13 +53,10 @@ pair from to n k v even more is =
     let some : n < length from = omega (arith, length-zip (reverse from) (reverse to), length-reverse from) in
     let f = length-reverse from in
     let t = length-reverse to in
-    let both = is ∙ get_or-zip (reverse from) (reverse to) n (k, v) (omega arith) (omega arith) in (
-      some,
-      ap (λ p. p.0) both
-          ∙ (get_or-reverse from n k some ∙ get_or_default_zero from (length from - 1 - n) k (omega arith)),
-      ap (λ p. p.1) both
-          ∙ (get_or-reverse to n v (omega arith) ∙ get_or_default_zero to (length to - 1 - n) v (omega arith)),
-    )
+    let both = is ∙ get_or-zip (reverse from) (reverse to) n (k, v) (omega arith) (omega arith) in
+    let key = get_or-reverse from n k some ∙ get_or_default_zero from (length from - 1 - n) k (omega arith) in
+    let value = get_or-reverse to n v (omega arith) ∙ get_or_default_zero to (length to - 1 - n) v (omega arith) in
+    (some, ap (λ p. p.0) both ∙ key, ap (λ p. p.1) both ∙ value)
 
 -- one pair more
 pub partners_turn : (table from to : List ℕ) (n m k v : ℕ) → length from ≡ length to
@@ -84,9 +83,9 @@ first-partner [] to b i e f = absurd (omega (arith, f.within))
 first-partner (x ∷ from) [] b i e f = absurd (omega arith)
 first-partner (x ∷ from) (y ∷ to) b zero e f = cond-true _ _ _ (eq-eqb x b f.here)
 first-partner (x ∷ from) (y ∷ to) b (suc i) e f =
-    cond-false _ _ _ (ne_eqb x b (f.first 0 (omega arith)))
-    ∙ first-partner from to b i (omega arith)
-    (record { within = omega (arith, f.within); here = f.here; first = λ j h. f.first (suc j) (omega arith) })
+    let later : FirstAt from b i =
+    record { within = omega (arith, f.within); here = f.here; first = λ j h. f.first (suc j) (omega arith) } in
+    cond-false _ _ _ (ne_eqb x b (f.first 0 (omega arith))) ∙ first-partner from to b i (omega arith) later
 
 -- a byte that is not in the list stays
 no_partner : (from to : List ℕ) (b : ℕ) → ((i : ℕ) → i < length from → get_or from i 0 ≡ b → ⊥) → partner from to b ≡ b
@@ -95,12 +94,13 @@ no_partner (x ∷ from) [] b none = refl
 no_partner (x ∷ from) (y ∷ to) b none =
     cond-false _ _ _ (ne_eqb x b (none 0 (omega arith))) ∙ no_partner from to b (λ i h. none (suc i) (omega arith))
 
+-- so the table has the entries of the law
 entries : (from to : List ℕ) (b : ℕ) → length from ≡ length to → b < byte_values
     → Entry from to b (get_or (table_from from to) b 0)
 entries from to b e h =
-    let at : get_or (table_from from to) b 0 ≡ partner from to b =
-    get_or-map-range_with_len (partner from to) 0 byte_values b b 0 h (omega arith) in
+    let at = get_or-map-range_with_len (partner from to) 0 byte_values b b 0 h (omega arith) in
     (λ i f. at ∙ first-partner from to b i e f, λ none. at ∙ no_partner from to b none)
 
+-- and keeps it
 pub maps_first : (from to : List ℕ) → length from ≡ length to → MapsFirst from to (table_from from to)
 maps_first from to e = (length-map-range_with_len (partner from to) 0 byte_values, λ b. entries from to b e)

@@ -6,14 +6,17 @@ use Rattle.bytesinner.specs.declared.tables.translate.ByteInnerTranslateOptions.
 use Rattle.bytesinner.specs.tables.Translations.{image, kept_bytes, table_in, delete_in, kept_images, InPlace, Without}
 use Rattle.bytesinner.proofs.tables.Counts.{count_kept}
 
--- the set is made from the whole delete list
-pub kept_bytes-is : (gone : ℕ → Bool) (delete ds text bytes : List ℕ) (at : ℕ) → length ds ≤ at
-    → ((b : ℕ) → gone b ≡ among (take at ds) b) → ds ≡ delete → bytes ≡ text
-    → kept_bytes gone bytes ≡ kept_bytes (among delete) text
-kept_bytes-is gone delete ds text bytes at end made whole is =
-    let same : (b : ℕ) → gone b ≡ among delete b = λ b. made b ∙ ap (λ xs. among xs b) (take_all at ds end ∙ whole) in
-    λ i. kept_bytes (λ b. same b i) (is i)
+-- past the end of the delete list the set is made from the whole of it
+pub set_whole : (gone : ℕ → Bool) (delete ds : List ℕ) (at : ℕ) → length ds ≤ at
+    → ((b : ℕ) → gone b ≡ among (take at ds) b) → ds ≡ delete → (b : ℕ) → gone b ≡ among delete b
+set_whole gone delete ds at end made is b = made b ∙ ap (λ xs. among xs b) (take_all at ds end ∙ is)
 
+-- so the bytes are kept that the options leave
+pub kept_bytes-is : (gone : ℕ → Bool) (delete text bytes : List ℕ) → ((b : ℕ) → gone b ≡ among delete b)
+    → bytes ≡ text → kept_bytes gone bytes ≡ kept_bytes (among delete) text
+kept_bytes-is gone delete text bytes same is = λ i. kept_bytes (λ b. same b i) (is i)
+
+-- where none is to go, all are kept
 kept_bytes-all : (xs : List ℕ) → kept_bytes (among []) xs ≡ xs
 kept_bytes-all [] = refl
 kept_bytes-all (x ∷ xs) = ap (λ r. x ∷ r) (kept_bytes-all xs)

@@ -37,12 +37,15 @@ pub record Stands (bs n : List ℕ) (a b p : ℕ) : Type 0 where
 abbrev pub Nowhere : List ℕ → List ℕ → ℕ → ℕ → Type 0
 Nowhere bs n a b = (p : ℕ) → ¬ Stands bs n a b p
 
--- the least offset at which the needle stands; none exactly when there is none
-abbrev pub FirstPlace : List ℕ → List ℕ → ℕ → ℕ → Option ℕ → Type 0
-FirstPlace bs n a b None = Nowhere bs n a b
-FirstPlace bs n a b (Some p) = Stands bs n a b p × ((q : ℕ) → Stands bs n a b q → p ≤ q)
+-- an offset at which the needle stands, and which is so to each other at which it does; none exactly when there is none
+abbrev pub PlaceBy : (ℕ → ℕ → Type 0) → List ℕ → List ℕ → ℕ → ℕ → Option ℕ → Type 0
+PlaceBy IsSo bs n a b None = Nowhere bs n a b
+PlaceBy IsSo bs n a b (Some p) = Stands bs n a b p × ((q : ℕ) → Stands bs n a b q → IsSo p q)
 
--- the greatest offset at which the needle stands; none exactly when there is none
+-- the least offset at which the needle stands
+abbrev pub FirstPlace : List ℕ → List ℕ → ℕ → ℕ → Option ℕ → Type 0
+FirstPlace = PlaceBy (λ p q. p ≤ q)
+
+-- the greatest offset at which the needle stands
 abbrev pub LastPlace : List ℕ → List ℕ → ℕ → ℕ → Option ℕ → Type 0
-LastPlace bs n a b None = Nowhere bs n a b
-LastPlace bs n a b (Some p) = Stands bs n a b p × ((q : ℕ) → Stands bs n a b q → q ≤ p)
+LastPlace = PlaceBy (λ p q. q ≤ p)

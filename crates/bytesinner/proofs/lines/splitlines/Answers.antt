@@ -16,8 +16,8 @@ returns g c =
     let old = c.args.places.now in
     let new = c.list.new.places in
     let n = c.list.result in
+    let all = opened-left c.new.result c.new.ensures.on c.new.ensures.state in
     let list : Lists (Ok (lines_of (concat es) ends)) old new n =
-    subst (λ ls. Lists (Ok ls) old new n)
-    (opened-left c.new.result c.new.ensures.on c.new.ensures.state) c.list.ensures in
+    subst (λ ls. Lists (Ok ls) old new n) all c.list.ensures in
     let cut = written (Cuttable es) _ (lines-cut es c.ascii_apart.ensures ends) old new n list in
     record { value = list; law = lines-law (concat es); cut = cut }

@@ -11,5 +11,5 @@ pub returns : goal.returns
 returns c =
     let bs = byte_list c.args.text.now in
     let value : coded c.ask.result ≡ answer_of count_of bs c.args.options = search rules in
-    let law = keeps count_of Number bs c.args.options (λ n a b k within is. number_is bs n a b k within is) _ value in
+    let law = keeps count_of Number bs c.args.options (number_is bs) _ value in
     record { value = value; law = law }

@@ -10,6 +10,5 @@ pub returns : goal.returns
 returns c =
     let bs = byte_list c.args.text.now in
     let law : Keeps LastPlace bs c.args.options c.ask.result = search rules in
-    let value =
-    answers rfind_of LastPlace bs c.args.options (λ n a b x within is. last-is bs n b within a x is) _ law in
+    let value = answers rfind_of LastPlace bs c.args.options (λ n a b x within. last-is bs n b within a x) _ law in
     record { value = value; law = law }

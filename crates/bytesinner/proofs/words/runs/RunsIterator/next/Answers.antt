@@ -10,9 +10,9 @@ use Rattle.bytesinner.proofs.words.runs.RunsIterator.next.Goals as goal
 pub returns-then-len-eq0-clause-steps : goal.returns-then-len-eq0-clause-steps
 returns-then-len-eq0-clause-steps g c =
     let rs = c.args.self.now in
-    let s =
-    scanned c.as_bytes.result.now c.in_ok-rest.rest.now c.as_bytes.ensures c.in_ok-rest.ensures.lookup.0.2
-    c.stretch_len-passed.ensures.value c.stretch_len-len.ensures.value in
+    let over = c.stretch_len-passed.ensures.value in
+    let through = c.stretch_len-len.ensures.value in
+    let s = scanned c.as_bytes.result.now _ c.as_bytes.ensures c.in_ok-rest.ensures.lookup.0.2 over through in
     let none = none_left (bytes g.S.AnyStr rs) rs.place _ _ s c.if-len-eq0.true in
     record { step = ap (first_run rs.place) (sym none); same = refl }
 
@@ -21,9 +21,9 @@ returns g c =
     let rs = c.args.self.now in
     let passed = c.stretch_len-passed.result in
     let len = c.stretch_len-len.result in
-    let s =
-    scanned c.as_bytes.result.now c.in_ok-rest.rest.now c.as_bytes.ensures c.in_ok-rest.ensures.lookup.0.2
-    c.stretch_len-passed.ensures.value c.stretch_len-len.ensures.value in
+    let over = c.stretch_len-passed.ensures.value in
+    let through = c.stretch_len-len.ensures.value in
+    let s = scanned c.as_bytes.result.now _ c.as_bytes.ensures c.in_ok-rest.ensures.lookup.0.2 over through in
     let run = Some (record { start = rs.place + passed; end = rs.place + passed + len }) in
     let step : RunStep g.S.AnyStr rs run (record { text = rs.text; place = rs.place + passed + len }) = record {
       step = ap (first_run rs.place) (sym (run_after (bytes g.S.AnyStr rs) rs.place passed len s (omega arith)));
