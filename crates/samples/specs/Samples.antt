@@ -12,7 +12,8 @@ use Rattle.cuts.specs.Cuts.{Opening, at_opening, next_of, nexts, skip_of, pour_o
 use Rattle.bytesinner.specs.finds.Counts.{count_of}
 use Rattle.bytesinner.specs.finds.Places.{find_of}
 use Rattle.bytesinner.specs.lines.Lines.{lines_of}
-use Rattle.bytesinner.specs.replaces.Replaces.{replace_of, bound_of, unbounded}
+use Rattle.bytesinner.specs.Openings.{unbounded}
+use Rattle.bytesinner.specs.replaces.Replaces.{replace_of, bound_of}
 use Rattle.bytesinner.specs.Splitting.{splits_of, rsplits_of}
 
 -- what a definition gives
