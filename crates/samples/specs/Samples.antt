@@ -1,5 +1,6 @@
 -- The samples: what the definitions give, beside what is expected. Assumes nothing.
-use Rattle.std.specs.Prelude.{◌≡◌, ℕ, Bool, true, false, List, [], ◌∷◌, map, length, ℤ, pos, negsuc, Some, None, Ok, Err, codes}
+use Rattle.std.specs.Prelude.{◌≡◌, ℕ, Bool, true, false, List, [], ◌∷◌, map, length, ℤ, pos, negsuc, Some, None, Ok}
+use Rattle.std.specs.Prelude.{Err, codes}
 use Rattle.std.specs.Prelude.{Option, Result}
 use Rattle.anystr.specs.Indices.{start_of, end_of}
 use Rattle.anystr.specs.OfBytes.{singles}

@@ -72,8 +72,8 @@ module _ (Rule : List Span → Type 0) (es : List (List ℕ)) (sep : List ℕ) (
       }
 
 -- split and rsplit keep them
-module _ (es : List (List ℕ)) (sep : List ℕ) (whole : OccursOnBoundaries es sep) (maxsplit : ℤ) (list list' : List Place)
-    (r : Result ℕ Refusal) where
+module _ (es : List (List ℕ)) (sep : List ℕ) (whole : OccursOnBoundaries es sep) (maxsplit : ℤ)
+    (list list' : List Place) (r : Result ℕ Refusal) where
   pub split-kept : Lists (split_of (concat es) sep maxsplit) list list' r
       → Kept (SplitFront (concat es) sep maxsplit) es sep list' r
   split-kept h =

@@ -19,7 +19,8 @@ use Rattle.bytesinner.specs.declared.splits.back.BackCutter.{BackCutter}
 module _ {S F C : Type 0} {s : AnyStr.Ghosts S C} {f : Searcher.Ghosts F S C} (c : BackCutter S F C s f)
     (law : Lawful (opening c).marks (size (opening c))) where
   -- a next gives the first of the pieces that are left
-  pub next-yields : (r : Option Piece) (d : BackCutter S F C s f) → BackStep c r d → YieldsFirstBy span left_pieces c r d
+  pub next-yields : (r : Option Piece) (d : BackCutter S F C s f) → BackStep c r d
+      → YieldsFirstBy span left_pieces c r d
   next-yields r d n =
       let q = n.same in
       let same : opening d ≡ opening c = λ i. opening_of s f (q.text i) (q.searcher i) (q.bound i) in
