@@ -1,5 +1,5 @@
 -- What the written places keep.
-use Rattle.std.proofs.Common.{◌≡◌, ℕ, ◌+◌, ◌-◌, ◌<◌, T, List, [], ◌∷◌, length, take, drop, ℤ, Ok, Err, Result, sym}
+use Rattle.std.proofs.Common.{◌≡◌, ℕ, ◌-◌, T, List, [], ◌∷◌, length, take, drop, ℤ, Ok, Err, Result, sym}
 use Rattle.std.proofs.Common.{refl, ap, ◌∙◌, subst, arith}
 use Rattle.std.specs.List.{concat}
 use Rattle.anystr.specs.Elements.{Boundary, OccursOnBoundaries}

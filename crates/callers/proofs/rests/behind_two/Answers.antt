@@ -1,4 +1,4 @@
-use Rattle.std.proofs.Common.{◌≡◌, subst}
+use Rattle.std.proofs.Common.{subst}
 use Rattle.cutters.specs.Calls.{opening_of, NextStep, Rests}
 use Rattle.cutters.specs.pieces.Lefts.{cutter_of}
 use Rattle.callers.proofs.Nexts.{rests_after_two}
