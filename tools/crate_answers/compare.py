@@ -1,10 +1,8 @@
 #!/usr/bin/env python3
 """Sets the Rust crate's answers beside those of replay and of CPython.
 
-CRATE is the unpacked archive of rustpython-vm 0.4.0. Its byte methods are taken from src/bytesinner.rs and src/anystr.rs as
-they stand there, put over stand-ins for the interpreter (stand_ins.rs) and over the crate bstr, whose searches
-they call, and built with sums that wrap; cargo has to find bstr, in its registry or in Debian's librust-bstr-dev. With --marks
-they are put over searches that are written by the meaning of marks and cuts (marks.rs) in place of bstr's.
+CRATE is the unpacked archive of rustpython-vm 0.4.0, whose byte methods bodies.py takes out and builds: over the crate bstr,
+whose searches they call, or with --marks over searches that are written by the meaning of marks and cuts (marks.rs).
 
 The cases are the stored ones of replay, random short and middle ones, and long ones: texts with the most bytes that there can
 be. Their answers are CPython's. The program replay has to be built (rt run in crates/replay).
@@ -14,91 +12,14 @@ import collections
 import math
 import os
 import random
-import re
 import subprocess
 import sys
 
 HERE = os.path.dirname(os.path.abspath(__file__))
 ROOT = os.path.dirname(os.path.dirname(HERE))
 sys.path.insert(0, os.path.dirname(HERE))
+import bodies
 import replay_cases as cases
-
-ANYSTR = ['pub struct SplitArgs', 'impl<T: TryFromObject + AnyStrWrapper> SplitArgs', 'pub struct SplitLinesArgs', 'fn saturate_to_isize',
-          'pub fn adjust_indices', 'pub trait StringRange', 'impl StringRange', 'pub trait AnyStrWrapper', 'pub trait AnyStrContainer']
-OF_TRAIT = ['py_split', 'py_split_whitespace', 'py_rsplit_whitespace', 'py_find', 'py_count', 'py_join', 'py_bytes_splitlines']
-BYTESINNER = ['pub struct PyBytesInner', 'impl From<Vec<u8>> for PyBytesInner', 'pub struct ByteInnerFindOptions', 'impl ByteInnerFindOptions',
-              'pub struct ByteInnerTranslateOptions', 'impl ByteInnerTranslateOptions', 'pub type ByteInnerSplitOptions', 'fn count_substring',
-              'pub trait ByteOr', 'impl ByteOr', 'impl AnyStrWrapper', 'impl AnyStrContainer', 'const ASCII_WHITESPACES', 'impl AnyStr for']
-METHODS = ['as_bytes', 'len', 'is_empty', 'count', 'join', 'find', 'maketrans', 'translate', 'split', 'rsplit', 'splitlines',
-           'replace_interleave', 'replace_delete', 'replace_in_place', 'replace_general', 'replace']
-
-MANIFEST = '''[package]
-name = "crate_answers"
-version = "0.1.0"
-edition = "2021"
-
-[profile.release]
-overflow-checks = false
-
-[dependencies]
-'''
-BSTR = 'bstr = { version = ">=0.2, <2", default-features = false, features = ["std"] }\n'
-
-
-def item(source, head):
-    """The item that begins with these words, with its derived traits, up to its closing brace or semicolon."""
-    start = re.search(r'^(#\[derive\([^\n]*\n)?[ ]*' + re.escape(head) + r'\b', source, re.M).start()
-    depth = 0
-    for i in range(start, len(source)):
-        c = source[i]
-        depth += (c in '{([') - (c in '})]')
-        if depth == 0 and (c == ';' or c == '}'):
-            return source[start:i + 1] + '\n'
-    raise SystemExit(f'no end of {head}')
-
-
-def method(source, name):
-    public = re.search(r'^    pub fn ' + name + r'\b', source, re.M)
-    return item(source, ('pub fn ' if public else 'fn ') + name)
-
-
-def trait(source):
-    """The trait AnyStr with what every kind has to give, and those of its functions that the methods call."""
-    whole = item(source, 'pub trait AnyStr')
-    required = whole[:whole.index('    fn py_add')]
-    return required + ''.join(method(whole, name) for name in OF_TRAIT) + '}\n'
-
-
-def read(*path):
-    """A file without its comments, which may have braces of their own."""
-    with open(os.path.join(*path)) as f:
-        return re.sub(r'//[^\n]*', '', f.read())
-
-
-def program(crate, marks):
-    anystr, inner = read(crate, 'src', 'anystr.rs'), read(crate, 'src', 'bytesinner.rs')
-    parts = [read(HERE, 'stand_ins.rs')]
-    parts += ['mod bstr {\n' + read(HERE, 'marks.rs') + '}\n'] if marks else []
-    parts += [item(read(crate, 'src', 'function', 'argument.rs'), 'pub enum OptionalArg')]
-    parts += [item(read(crate, 'src', 'function', 'either.rs'), 'pub enum Either')]
-    parts += [item(anystr, head) for head in ANYSTR] + [trait(anystr)]
-    parts += [item(inner, head) for head in BYTESINNER]
-    own = inner[inner.index('\nimpl PyBytesInner {'):]
-    parts += ['impl PyBytesInner {\n' + ''.join(method(own, name) for name in METHODS) + '}\n']
-    parts += [read(HERE, 'driver.rs')]
-    text = '\n'.join(parts)
-    return re.sub(r'#\[derive\(FromArgs\)\]|#\[pyarg\([^\n]*\)\]|, result_like::\w+|, is_macro::\w+|pub\(super\) ', '', text)
-
-
-def build(crate, marks):
-    place = os.path.join(ROOT, 'target', 'crate_answers_marks' if marks else 'crate_answers')
-    os.makedirs(os.path.join(place, 'src'), exist_ok=True)
-    for name, text in (('Cargo.toml', MANIFEST + BSTR * (not marks)), ('src/main.rs', program(crate, marks))):
-        with open(os.path.join(place, name), 'w') as f:
-            f.write(text)
-    subprocess.run(['cargo', 'build', '--release', '--quiet'], cwd=place, check=True)
-    return os.path.join(place, 'target', 'release', 'crate_answers')
-
 
 ALPHABETS = [b'ab', b'a,', b'ab,;', b' \t\n\r\x0b\x0cab', b'\r\na', cases.ALL]
 BOUNDS = [-1, 0, 1, 2, 3, 7, 100, cases.MOST, cases.LEAST]
@@ -261,7 +182,8 @@ def main():
     options.add_argument('--middle', type=int, default=4000, help='how many middle ones (%(default)s)')
     options.add_argument('--seed', type=int, default=1)
     options = options.parse_args()
-    crate, replay = build(options.crate, options.marks), os.path.join(ROOT, 'crates', 'replay', 'out', 'replay')
+    crate = bodies.build(options.crate, os.path.join(HERE, 'driver.rs'), options.marks)
+    replay = os.path.join(ROOT, 'crates', 'replay', 'out', 'replay')
     count = collections.defaultdict(collections.Counter)
     for length in batches(options):
         for line, port, of_crate, cpython in compared(crate, replay):

@@ -21,7 +21,7 @@ fn index(word: &str) -> PyIntRef {
 }
 
 fn object(word: &str) -> PyObjectRef {
-    PyObjectRef(bytes(word))
+    PyObjectRef::Bytes(bytes(word))
 }
 
 fn optional<T>(value: Option<T>) -> OptionalArg<T> {
@@ -79,7 +79,7 @@ fn place(text: &PyBytesInner, part: &[u8]) -> (usize, usize) {
 fn laid(text: &PyBytesInner, pieces: Vec<PyObjectRef>, gap: usize) -> Vec<(usize, usize)> {
     let mut start = 0;
     let mut places = Vec::new();
-    for PyObjectRef(piece) in pieces {
+    for piece in pieces.into_iter().map(PyObjectRef::into_bytes) {
         let end = start + piece.len();
         assert_eq!(text.elements[start..end], piece[..]);
         places.push((start, end));
@@ -101,7 +101,7 @@ fn split(words: &[&str]) -> String {
         if gap.is_none() {
             runs.borrow_mut().push(place(&text, part));
         }
-        PyObjectRef(part.to_vec())
+        PyObjectRef::Bytes(part.to_vec())
     };
     let back = words[0] == "rsplit";
     let pieces = if back {

@@ -58,16 +58,28 @@ impl PyIntRef {
     }
 }
 
-// An argument's bytes, or a piece's.
-pub struct PyObjectRef(Vec<u8>);
+// An argument's bytes, or a piece: its bytes, or its offset in the text and its length.
+pub enum PyObjectRef {
+    Bytes(Vec<u8>),
+    Place(usize, usize),
+}
 
 pub trait TryFromObject: Sized {
     fn try_from_object(object: PyObjectRef) -> Self;
 }
 
+impl PyObjectRef {
+    fn into_bytes(self) -> Vec<u8> {
+        match self {
+            PyObjectRef::Bytes(bytes) => bytes,
+            PyObjectRef::Place(..) => panic!("no method asks a place for its bytes"),
+        }
+    }
+}
+
 impl TryFromObject for PyBytesInner {
     fn try_from_object(object: PyObjectRef) -> Self {
-        object.0.into()
+        object.into_bytes().into()
     }
 }
 

@@ -13,8 +13,8 @@ abbrev pub IsWritten : List ℕ → (label label' page page' : List ℕ) → Res
 IsWritten row label label' page page' (Ok OnLabel) =
     (length row ≤ label_bytes - length label) × (label' ≡ label ++ row) × (page' ≡ page)
 IsWritten row label label' page page' (Ok OnPage) =
-    (label_bytes - length label < length row) × (length row ≤ length page)
-    × (label' ≡ label) × (page' ≡ row ++ drop (length row) page)
+    (label_bytes - length label < length row) × (length row ≤ length page) × (label' ≡ label)
+    × (page' ≡ row ++ drop (length row) page)
 IsWritten row label label' page page' (Err e) =
     (label_bytes - length label < length row) × (length page < length row)
     × (code e ≡ code (TooSmall (length row))) × (label' ≡ label) × (page' ≡ page)

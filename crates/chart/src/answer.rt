@@ -30,7 +30,7 @@ fn show_count(page: &mut Page, times: Result<usize, Refusal>) -> Result<(), Stop
     Ok(page.line("times ", times?, "")?)
 }
 
-// Shows what a method answers on a sheet of this kind.
+/// Shows what a method answers on a sheet of this kind.
 pub fn show_answer<'a, S: AsciiStr + TryFrom<&'a [u8], Error = Refusal>>(
     page: &mut Page,
     sheet: &S,

@@ -61,14 +61,14 @@ fn whole_calls<S: AnyStr>(heap: Global, gap: S) -> Result<Vec<Call<S>>, AllocErr
     Ok(calls)
 }
 
-// Shows what is left of the row after its first field.
+/// Shows what is left of the row after its first field.
 pub fn show_calls<S: AnyStr>(page: &mut Page, row: &Row<S>) -> Result<(), Stop> {
     let calls = part_calls(page.heap, row.gap)?;
     let names = ["skip 1", "rest", "next", "pour"];
     show_played(page, row, &names, calls.as_slice())
 }
 
-// Shows the whole row poured into a label.
+/// Shows the whole row poured into a label.
 pub fn show_label<S: AnyStr>(page: &mut Page, row: &Row<S>) -> Result<(), Stop> {
     let calls = whole_calls(page.heap, row.gap)?;
     show_played(page, row, &["label"], calls.as_slice())

@@ -79,6 +79,7 @@ fn show_edit<S: AnyStr>(page: &mut Page, sheet: &S, edit: &Edit<'_, S>) -> Resul
     show_made(page, bytes.as_slice())
 }
 
+/// The sheet with `to` in place of `from`, as often as `maxcount` allows.
 pub fn show_replace<'a, S: AnyStr + TryFrom<&'a [u8], Error = Refusal>>(
     page: &mut Page,
     sheet: &S,
@@ -101,7 +102,7 @@ fn table_of(from: &[u8], to: &[u8]) -> Result<[u8; BYTE_VALUES], Refusal> {
     Ok(table)
 }
 
-// The sheet by the table of `from` and `to`, without the bytes to delete.
+/// The sheet by the table of `from` and `to`, without the bytes to delete.
 pub fn show_translate<S: AnyStr>(
     page: &mut Page,
     sheet: &S,
@@ -117,7 +118,7 @@ pub fn show_translate<S: AnyStr>(
     show_edit(page, sheet, &Edit::Translate(options))
 }
 
-// The lines of the sheet, joined with `sep`.
+/// The lines of the sheet, joined with `sep`.
 pub fn show_join<'a, S: AsciiStr + TryFrom<&'a [u8], Error = Refusal>>(
     page: &mut Page,
     sheet: &S,

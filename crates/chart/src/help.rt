@@ -1,4 +1,5 @@
 // What `chart help` says.
+/// The words of the program.
 pub const HELP: &str =
     "chart shows the sheet at the standard input: its rows and fields, and counts of them.
 With a word it shows what one method gives on the sheet:

@@ -20,7 +20,7 @@ fn is_plain(word: &[u8]) -> bool {
     !word.is_empty() && word.iter().all(|b| b.is_ascii_alphanumeric() || *b == b'-')
 }
 
-// The counts below a sheet. A text has far fewer rows and fields than a number holds, so no count saturates.
+/// The counts below a sheet. A text has far fewer rows and fields than a number holds, so no count saturates.
 #[derive(Clone, Copy, Default)]
 pub struct Tally {
     pub rows: Saturating<usize>,
@@ -28,7 +28,7 @@ pub struct Tally {
     pub empty: Saturating<usize>,
 }
 
-// Where a sheet is shown.
+/// Where a sheet is shown.
 #[derive(Drop)]
 pub struct Page {
     out: BufWriter<Stdout>,
@@ -38,6 +38,7 @@ pub struct Page {
 }
 
 impl Page {
+    /// A page that is written to `out`.
     pub fn new(out: BufWriter<Stdout>, heap: Global) -> Page {
         Page {
             out,
@@ -46,7 +47,7 @@ impl Page {
         }
     }
 
-    // The sheet's size, and what the check for well-formed text said.
+    /// The sheet's size, and what the check for well-formed text said.
     pub fn head<S: AnyStr>(&mut self, sheet: &S, checked: Result<(), Refusal>) -> io::Result<()> {
         self.line("sheet  ", sheet.bytes_len(), " bytes")?;
         match checked {
@@ -61,11 +62,13 @@ impl Page {
         }
     }
 
+    /// A row of the sheet, with its offsets in bytes.
     pub fn row(&mut self, number: usize, row: Piece) -> io::Result<()> {
         let Piece { start, end } = row;
         writeln!(self.out, "\nrow {number:>4}  {start:>8}..{end}")
     }
 
+    /// A field, with its number, its place in bytes and its content.
     pub fn field<S: AnyStr>(&mut self, number: usize, place: Place, content: &S) -> io::Result<()> {
         let Place { start, end } = place;
         write!(self.out, "    {number:>4}  {start:>8}..{end:<8}  ")?;
@@ -97,13 +100,13 @@ impl Page {
         writeln!(self.out, "{start}..{end}")
     }
 
-    // In words of its own, and by no `Display`: `replay` writes numbers alone.
+    /// In words of its own, and by no `Display`: `replay` writes numbers alone.
     pub fn refused(&mut self, refusal: Refusal) -> io::Result<()> {
         let (number, value) = refusal.code();
         writeln!(self.out, "refused ({number}) with {value}")
     }
 
-    // What a call on a cutter of the row's fields answered, by places in the sheet; a pour went into the label.
+    /// What a call on a cutter of the row's fields answered, by places in the sheet; a pour went into the label.
     pub fn answer<S: AnyStr>(
         &mut self,
         call: &str,
@@ -125,6 +128,7 @@ impl Page {
         writeln!(self.out, "{name:<12}  {count:>8}")
     }
 
+    /// The counts below a sheet.
     pub fn counts(&mut self, tally: &Tally, tabs: usize, blanks: usize) -> io::Result<()> {
         self.out.write_all(b"\n")?;
         self.count("rows", tally.rows.0)?;
@@ -134,7 +138,7 @@ impl Page {
         self.count("blanks", blanks)
     }
 
-    // A word of a call, as one would write it to a shell.
+    /// A word of a call, as one would write it to a shell.
     pub fn word(&mut self, word: &[u8]) -> io::Result<()> {
         if is_plain(word) {
             self.out.write_all(word)?;
@@ -144,7 +148,7 @@ impl Page {
         self.out.write_all(b" ")
     }
 
-    // The places that a method listed, each with its content.
+    /// The places that a method listed, each with its content.
     pub fn places<S: AnyStr>(&mut self, sheet: &S, places: &[Place]) -> io::Result<()> {
         for (number, place) in (1..).zip(places) {
             let content = sheet.get_bytes(place.start..place.end);
@@ -153,7 +157,7 @@ impl Page {
         Ok(())
     }
 
-    // A line with a number.
+    /// A line with a number.
     pub fn line(&mut self, before: &str, number: usize, after: &str) -> io::Result<()> {
         writeln!(self.out, "{before}{number}{after}")
     }
@@ -162,7 +166,7 @@ impl Page {
         self.out.write_all(b"none\n")
     }
 
-    // Where something was found, if anywhere.
+    /// Where something was found, if anywhere.
     pub fn found(&mut self, offset: Option<usize>) -> io::Result<()> {
         match offset {
             Some(offset) => self.line("found at ", offset, ""),
@@ -170,7 +174,7 @@ impl Page {
         }
     }
 
-    // Everything is written out.
+    /// Everything is written out.
     pub fn finish(&mut self) -> io::Result<()> {
         self.out.flush()
     }

@@ -6,6 +6,7 @@ use cutters::cutter::Cutter;
 use cutters::piece::Piece;
 use searchers::substring::Substring;
 
+/// A row of a sheet, and what cuts it into fields.
 #[derive(Drop)]
 pub struct Row<S: AnyStr> {
     pub text: S,
@@ -18,12 +19,12 @@ pub struct Row<S: AnyStr> {
 }
 
 impl<S: AnyStr> Row<S> {
-    // A cutter on the row that gives its fields.
+    /// A cutter on the row that gives its fields.
     pub fn fields(&self) -> Cutter<S, Substring<S>> {
         Cutter::open(self.text, self.comma, UNBOUNDED)
     }
 
-    // Where a piece of the row stands in the sheet. No sum saturates: a sheet has far fewer bytes than a number holds.
+    /// Where a piece of the row stands in the sheet. No sum saturates: a sheet has far fewer bytes than a number holds.
     pub fn place(&self, piece: Piece) -> Place {
         Place {
             start: self.start.saturating_add(piece.start),

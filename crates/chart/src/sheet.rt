@@ -76,7 +76,7 @@ fn show_counts<S: AsciiStr>(page: &mut Page, sheet: &S, tally: &Tally) -> io::Re
     page.counts(tally, tabs, blanks)
 }
 
-// Shows a sheet, with what its check for well-formed text said.
+/// Shows a sheet, with what its check for well-formed text said.
 pub fn show_sheet<'a, S: AsciiStr + TryFrom<&'a [u8], Error = Refusal>>(
     page: &mut Page,
     sheet: S,

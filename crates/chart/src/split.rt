@@ -10,7 +10,7 @@ use bytesinner::{rsplit, split, splitlines};
 use searchers::ascii::AsciiStr;
 use std::alloc::Global;
 
-// A method that lists places, with its arguments.
+/// A method that lists places, with its arguments.
 #[derive(Drop)]
 pub enum Listing<S: AsciiStr> {
     Split(SplitArgs<S>),
@@ -31,7 +31,7 @@ fn list<S: AsciiStr>(
     }
 }
 
-// The places that the method lists.
+/// The places that the method lists.
 pub fn listed<S: AsciiStr>(
     heap: Global,
     sheet: &S,
@@ -43,7 +43,7 @@ pub fn listed<S: AsciiStr>(
     Ok(places)
 }
 
-// Shows each place that the method lists with its content, and below them their number, after `name`.
+/// Shows each place that the method lists with its content, and below them their number, after `name`.
 pub fn show_listed<S: AsciiStr>(
     page: &mut Page,
     sheet: &S,
@@ -69,6 +69,7 @@ fn split_args<'a, S: TryFrom<&'a [u8], Error = Refusal>>(
     })
 }
 
+/// The places that split gives on the sheet.
 pub fn show_split<'a, S: AsciiStr + TryFrom<&'a [u8], Error = Refusal>>(
     page: &mut Page,
     sheet: &S,
@@ -78,6 +79,7 @@ pub fn show_split<'a, S: AsciiStr + TryFrom<&'a [u8], Error = Refusal>>(
     show_listed(page, sheet, "places ", &Listing::Split(args))
 }
 
+/// The places that rsplit gives on the sheet.
 pub fn show_rsplit<'a, S: AsciiStr + TryFrom<&'a [u8], Error = Refusal>>(
     page: &mut Page,
     sheet: &S,

@@ -3,6 +3,7 @@ use anystr::refusal::Refusal;
 use std::alloc::AllocError;
 use std::io;
 
+/// Why a page ends early.
 #[derive(Drop)]
 pub enum Stop {
     Refused(Refusal),

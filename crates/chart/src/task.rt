@@ -4,7 +4,7 @@ use bytesinner::splitargs::SplitArgs;
 use cutters::bound::UNBOUNDED;
 use std::fmt;
 
-// What is wrong with the words.
+/// What is wrong with the words.
 #[derive(Clone, Copy)]
 pub enum Misuse {
     Unknown,
@@ -25,7 +25,7 @@ impl fmt::Display for Misuse {
     }
 }
 
-// A method, with its arguments.
+/// A method, with its arguments.
 #[derive(Clone, Copy)]
 pub enum Method<'a> {
     Split(SplitArgs<&'a [u8]>),
@@ -47,7 +47,7 @@ pub enum Method<'a> {
     Join(&'a [u8]),
 }
 
-// What is to be shown: the sheet, what a method gives on it, or the help.
+/// What is to be shown: the sheet, what a method gives on it, or the help.
 #[derive(Clone, Copy)]
 pub enum Task<'a> {
     Sheet,
@@ -145,7 +145,7 @@ fn read_method<'a>(name: &str, words: &'a [String]) -> Result<Method<'a>, Misuse
     }
 }
 
-// The task that the words ask for, or what is wrong with them.
+/// The task that the words ask for, or what is wrong with them.
 pub fn read_task<'a>(words: &'a [String]) -> Result<Task<'a>, Misuse> {
     let Some(name) = words.get(1) else {
         return Ok(Task::Sheet);

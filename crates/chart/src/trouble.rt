@@ -4,6 +4,7 @@ use anystr::anystr::MAX_BYTES;
 use anystr::refusal::Refusal;
 use std::{fmt, io};
 
+/// What keeps the program from its page.
 #[derive(Drop)]
 pub enum Trouble {
     Misused(Misuse),

@@ -6,8 +6,11 @@ use Rattle.anystr.specs.Refusals.{code}
 use Rattle.cuts.specs.Cuts.{Opening, State, pieces_left, skip_of}
 
 module _ (on : Opening) (n : ℕ) (s : State) where
-  pub skip-passes : n ≤ length (pieces_left on s) → Ok tt ≡ skip_of on n s
-  skip-passes h = rw (le-leb n (length (pieces_left on s)) h)
+  -- it passes where so many are left
+  pub skip_passes : n ≤ length (pieces_left on s) → Ok tt ≡ skip_of on n s
+  skip_passes h = rw (le-leb n (length (pieces_left on s)) h)
 
-  pub skip-refuses : length (pieces_left on s) < n → (left : ℕ) → left ≡ length (pieces_left on s) → Err (code (TooFew left)) ≡ skip_of on n s
-  skip-refuses h left e = rw (lt-leb n (length (pieces_left on s)) h, e)
+  -- and is else refused with their number
+  pub skip_refuses : length (pieces_left on s) < n → (left : ℕ) → left ≡ length (pieces_left on s)
+      → Err (code (TooFew left)) ≡ skip_of on n s
+  skip_refuses h left e = rw (lt-leb n (length (pieces_left on s)) h, e)

@@ -11,8 +11,8 @@ use Rattle.cuts.proofs.Left.{nexted}
 abbrev pub GivesFirst : {A S : Type 0} → (S → List A) → S → Option A × S → Type 0
 GivesFirst left s n = YieldsFirst left s n.0 n.1
 
--- A source has left what its state has. Where its answer, read by `view`, and its state after it are what gives the first
--- of those, it gives the first itself.
+-- A source has left what its state has. Where its answer, read by `view`, and its state after it are what gives the
+-- first of those, it gives the first itself.
 pub seen_yields : {A B S T : Type 0} (view : A → B) (left : T → List B) (now : S → List B)
     (c : T) (r : Option A) (d : T) {s t : S} {n : Option B × S}
     → left c ≡ now s → left d ≡ now t → (option_map view r, t) ≡ n → GivesFirst now s n → YieldsFirstBy view left c r d

@@ -1,24 +1,26 @@
 -- What a cutter's calls give, as functions that compute. Assumes nothing.
-use Rattle.std.specs.Prelude.{ℕ, zero, suc, ◌+◌, ◌-◌, Bool, true, false, cond, if◌then◌else◌, ◌&&◌, List, [], ◌∷◌, ◌++◌, length, take, drop, ℤ, pos, negsuc, Some, None, Ok, Err, Option, Result, nat_le, nat_lt}
+use Rattle.std.specs.Prelude.{ℕ, zero, suc, ◌+◌, ◌-◌, Bool, true, false, if◌then◌else◌, ◌&&◌, nat_le, nat_lt}
+use Rattle.std.specs.Prelude.{List, [], ◌∷◌, ◌++◌, length, take, drop, ℤ, pos, negsuc, Some, None, Ok, Err, Option}
+use Rattle.std.specs.Prelude.{Result}
 use Rattle.anystr.specs.declared.refusal.Refusal.TheVariants.{Spent, TooFew}
 use Rattle.anystr.specs.Refusals.{code}
 use Rattle.searchers.specs.Marks.{Marks, Span}
 
 -- the mark that begins at `a`, if one of the `n` ends from `e` on makes one
-abbrev pub begun : Marks → ℕ → ℕ → ℕ → List Span
-begun marks a e zero = []
-begun marks a e (suc n) = cond (marks a e) ((a, e) ∷ []) (begun marks a (suc e) n)
+abbrev pub mark_at : Marks → ℕ → ℕ → ℕ → List Span
+mark_at marks a e zero = []
+mark_at marks a e (suc n) = if marks a e then (a, e) ∷ [] else mark_at marks a (suc e) n
 
 -- the marks that begin at `a` or after it, up to `n` bytes on, in the order of their starts
-abbrev pub listed : Marks → ℕ → ℕ → List Span
-listed marks a zero = []
-listed marks a (suc n) = begun marks a (suc a) (suc n) ++ listed marks (suc a) n
+abbrev pub marks_from : Marks → ℕ → ℕ → List Span
+marks_from marks a zero = []
+marks_from marks a (suc n) = mark_at marks a (suc a) (suc n) ++ marks_from marks (suc a) n
 
 -- every mark of a text of `len` bytes, in the order of their starts
 abbrev pub all_marks : Marks → ℕ → List Span
-all_marks marks len = listed marks 0 len
+all_marks marks len = marks_from marks 0 len
 
--- any number of cuts is fewer than a negative bound
+-- whether n cuts are fewer than the bound; any number is fewer than a negative one
 abbrev pub fewer : ℕ → ℤ → Bool
 fewer n (pos b) = nat_lt n b
 fewer n (negsuc _) = true
@@ -26,7 +28,8 @@ fewer n (negsuc _) = true
 -- of marks in the order of their starts, those that are cut from `place` on, after `made` cuts
 abbrev pub cuts : ℤ → ℕ → ℕ → List Span → List Span
 cuts bound made place [] = []
-cuts bound made place (m ∷ ms) = cond (nat_le place m.0 && fewer made bound) (m ∷ cuts bound (suc made) m.1 ms) (cuts bound made place ms)
+cuts bound made place (m ∷ ms) =
+    if nat_le place m.0 && fewer made bound then m ∷ cuts bound (suc made) m.1 ms else cuts bound made place ms
 
 -- the pieces that cuts leave of the bytes from `place` to `len`
 abbrev pub between : ℕ → ℕ → List Span → List Span
@@ -50,6 +53,7 @@ pub record State : Type 0 where
   pub made : ℕ
   pub spent : Bool
 
+-- the state at a place, after so many cuts, spent or not
 abbrev pub at : ℕ → ℕ → Bool → State
 at p m s = record { place = p; made = m; spent = s }
 
@@ -67,11 +71,11 @@ cut_from on made place = cuts on.bound made place (all_marks on.marks (size on))
 
 -- the marks that are still to be cut
 abbrev pub to_cut : Opening → State → List Span
-to_cut on s = cond s.spent [] (cut_from on s.made s.place)
+to_cut on s = if s.spent then [] else cut_from on s.made s.place
 
 -- the pieces that are left
 abbrev pub pieces_left : Opening → State → List Span
-pieces_left on s = cond s.spent [] (between s.place (size on) (to_cut on s))
+pieces_left on s = if s.spent then [] else between s.place (size on) (to_cut on s)
 
 -- the next piece, where these marks are still to be cut, and the state after it
 abbrev pub after_cut : ℕ → State → List Span → Option Span × State
@@ -80,7 +84,7 @@ after_cut len s (m ∷ ms) = (Some (s.place, m.0), at m.1 (suc s.made) false)
 
 -- next: what it gives, and the state after it
 abbrev pub next_of : Opening → State → Option Span × State
-next_of on s = cond s.spent (None, s) (after_cut (size on) s (to_cut on s))
+next_of on s = if s.spent then (None, s) else after_cut (size on) s (to_cut on s)
 
 -- the state after n nexts
 abbrev pub nexts : Opening → ℕ → State → State

@@ -1,11 +1,14 @@
 -- What holds of a cutter after every list of calls, in the words of marks, cuts and pieces. Assumes nothing.
-use Rattle.std.specs.Prelude.{◌≡◌, ℕ, zero, suc, ◌+◌, ◌-◌, ◌<◌, ◌≤◌, cond, if◌then◌else◌, T, ◌⊎◌, List, [], ◌∷◌, ◌++◌, length, ℤ, Some, None, Ok, Err, Option, Result, nat_le, nat_lt}
+use Rattle.std.specs.Prelude.{◌≡◌, ℕ, zero, suc, ◌+◌, ◌-◌, ◌<◌, ◌≤◌, if◌then◌else◌, IsTrue, ◌⊎◌, nat_le, nat_lt}
+use Rattle.std.specs.Prelude.{List, [], ◌∷◌, ◌++◌, length, ℤ, Some, None, Ok, Err, Option, Result}
 use Rattle.anystr.specs.declared.refusal.Refusal.TheVariants.{Spent, TooFew}
 use Rattle.anystr.specs.Refusals.{code}
 use Rattle.searchers.specs.Marks.{Marks, Span}
 use Rattle.trays.specs.Trays.{Contents, IsFilled}
-use Rattle.cuts.specs.Cuts.{Opening, size, State, at_opening, fewer, poured, next_of, nexts, unless_refused, skip_of, pour_of, poured_out}
+use Rattle.cuts.specs.Cuts.{Opening, size, State, at_opening, fewer, poured, next_of, nexts, unless_refused}
+use Rattle.cuts.specs.Cuts.{skip_of, pour_of, poured_out}
 
+-- a stretch stands in a list
 abbrev pub In : Span → List Span → Type 0
 In m [] = ⊥
 In m (c ∷ cs) = (m ≡ c) ⊎ In m cs
@@ -19,21 +22,23 @@ abbrev pub Free : List Span → Span → Type 0
 Free cut m = (c : Span) → In c cut → c.0 < m.0 → Overlap c m → ⊥
 
 -- how many cuts begin before `a`
-abbrev pub earlier : List Span → ℕ → ℕ
-earlier [] a = 0
-earlier (c ∷ cs) a = cond (nat_lt c.0 a) 1 0 + earlier cs a
+abbrev pub count_before : List Span → ℕ → ℕ
+count_before [] a = 0
+count_before (c ∷ cs) a = (if nat_lt c.0 a then 1 else 0) + count_before cs a
 
 -- Of the marks that begin before the rest, exactly those are cut that no earlier cut overlaps and whose
 -- earlier cuts are fewer than the bound.
 pub record CutRule (marks : Marks) (bound : ℤ) (rest : ℕ) (cut : List Span) : Type 0 where
-  pub marked : (m : Span) → In m cut → T (marks m.0 m.1) × (m.0 < rest)
-  pub only : (m : Span) → In m cut → Free cut m × T (fewer (earlier cut m.0) bound)
-  pub every : (m : Span) → T (marks m.0 m.1) → m.0 < rest → Free cut m → T (fewer (earlier cut m.0) bound) → In m cut
+  pub marked : (m : Span) → In m cut → IsTrue (marks m.0 m.1) × (m.0 < rest)
+  pub only : (m : Span) → In m cut → Free cut m × IsTrue (fewer (count_before cut m.0) bound)
+  pub every : (m : Span) → IsTrue (marks m.0 m.1) → m.0 < rest
+      → Free cut m → IsTrue (fewer (count_before cut m.0) bound) → In m cut
 
 -- a piece with the mark that is cut after it
 abbrev pub Cut : Type 0
 Cut = Span × Span
 
+-- the marks of such a row
 abbrev pub marks_of : List Cut → List Span
 marks_of [] = []
 marks_of (x ∷ xs) = x.1 ∷ marks_of xs
@@ -43,8 +48,10 @@ marks_of (x ∷ xs) = x.1 ∷ marks_of xs
 abbrev pub Lie : ℕ → List Cut → Option Span → ℕ → ℕ → Type 0
 Lie p [] None rest len = (p ≡ rest) × (rest ≤ len)
 Lie p [] (Some piece) rest len = (piece.0 ≡ p) × (p ≤ len) × (piece.1 ≡ len) × (rest ≡ len)
-Lie p (x ∷ xs) last rest len = (x.0.0 ≡ p) × (p ≤ x.0.1) × (x.0.1 ≡ x.1.0) × (x.1.0 ≤ x.1.1) × Lie x.1.1 xs last rest len
+Lie p (x ∷ xs) last rest len =
+    (x.0.0 ≡ p) × (p ≤ x.0.1) × (x.0.1 ≡ x.1.0) × (x.1.0 ≤ x.1.1) × Lie x.1.1 xs last rest len
 
+-- the number of pieces, the last among them
 abbrev pub count : List Cut → Option Span → ℕ
 count row None = length row
 count row (Some _) = suc (length row)
@@ -68,7 +75,8 @@ abbrev pub Step : Opening → State → Event → State → Type 0
 Step on s (next r) t = (r ≡ (next_of on s).0) × (t ≡ (next_of on s).1)
 Step on s (skip n r) t = (r ≡ skip_of on n s) × (t ≡ unless_refused r (nexts on n s) s)
 Step on s (rest r) t = (r ≡ (s.place, size on)) × (t ≡ s)
-Step on s (pour to tray r tray') t = IsFilled (pour_of on to s) tray tray' r × (t ≡ unless_refused r (poured_out on s) s)
+Step on s (pour to tray r tray') t =
+    IsFilled (pour_of on to s) tray tray' r × (t ≡ unless_refused r (poured_out on s) s)
 
 -- a list of calls, the latest first, that leads from one state to another
 pub data Run (on : Opening) : State → List Event → State → Type 0 where
@@ -76,21 +84,21 @@ pub data Run (on : Opening) : State → List Event → State → Type 0 where
   more : {s t u : State} {e : Event} {es : List Event} → Run on s es t → Step on t e u → Run on s (e ∷ es) u
 
 -- the pieces given, skipped or poured by a list of calls, the latest call first, of a text with `total` pieces
-abbrev pub done : ℕ → List Event → ℕ
-done total [] = 0
-done total (next None ∷ es) = done total es
-done total (next (Some _) ∷ es) = suc (done total es)
-done total (skip n (Ok _) ∷ es) = done total es + n
-done total (skip n (Err _) ∷ es) = done total es
-done total (rest _ ∷ es) = done total es
-done total (pour _ _ (Ok _) _ ∷ es) = total
-done total (pour _ _ (Err _) _ ∷ es) = done total es
+abbrev pub pieces_done : ℕ → List Event → ℕ
+pieces_done total [] = 0
+pieces_done total (next None ∷ es) = pieces_done total es
+pieces_done total (next (Some _) ∷ es) = suc (pieces_done total es)
+pieces_done total (skip n (Ok _) ∷ es) = pieces_done total es + n
+pieces_done total (skip n (Err _) ∷ es) = pieces_done total es
+pieces_done total (rest _ ∷ es) = pieces_done total es
+pieces_done total (pour _ _ (Ok _) _ ∷ es) = total
+pieces_done total (pour _ _ (Err _) _ ∷ es) = pieces_done total es
 
 -- each next that gave a piece gave the one that stands there
 abbrev pub Given : ℕ → List Event → List Cut → Option Span → Type 0
 Given total [] row last = Unit {0}
 Given total (next None ∷ es) row last = Given total es row last
-Given total (next (Some p) ∷ es) row last = (piece row last (done total es) ≡ Some p) × Given total es row last
+Given total (next (Some p) ∷ es) row last = (piece row last (pieces_done total es) ≡ Some p) × Given total es row last
 Given total (skip _ _ ∷ es) row last = Given total es row last
 Given total (rest _ ∷ es) row last = Given total es row last
 Given total (pour _ _ _ _ ∷ es) row last = Given total es row last
@@ -119,15 +127,17 @@ pub record After (on : Opening) (es : List Event) (s : State) : Type 0 where
   -- the marks that are still to be cut
   pub still : List Span
   pub so_far : whole ≡ marks_of row ++ still
-  pub counted : count row last ≡ done (suc (length whole)) es
+  pub counted : count row last ≡ pieces_done (suc (length whole)) es
   pub given : Given (suc (length whole)) es row last
   pub end_to_end : Lie 0 row last s.place (size on)
   pub rule : CutRule on.marks on.bound s.place (marks_of row)
   -- no other pieces, as many, keep the rule
-  pub no_other : (row' : List Cut) (last' : Option Span) (rest' : ℕ) → Lie 0 row' last' rest' (size on) → CutRule on.marks on.bound rest' (marks_of row')
-      → count row' last' ≡ count row last → (row' ≡ row) × (last' ≡ last) × (rest' ≡ s.place)
+  pub no_other : (row' : List Cut) (last' : Option Span) (rest' : ℕ) → Lie 0 row' last' rest' (size on)
+      → CutRule on.marks on.bound rest' (marks_of row') → count row' last' ≡ count row last
+      → (row' ≡ row) × (last' ≡ last) × (rest' ≡ s.place)
   -- what one more call answers
-  pub one_more : (e : Event) (t : State) → Step on s e t → Answers on.bytes (suc (length whole)) (count row last) s.place still e
+  pub one_more : (e : Event) (t : State) → Step on s e t
+      → Answers on.bytes (suc (length whole)) (count row last) s.place still e
 
 -- the law of a cutter: what holds after every list of calls since it was opened
 abbrev pub RunsLaw : Opening → Type 0

@@ -11,8 +11,10 @@ use Rattle.cutters.specs.declared.cutter.Cutter.{Cutter}
 
 module _ {S F C : Type 0} {s : AnyStr.Ghosts S C} {f : Searcher.Ghosts F S C} where
   pub same_again : (c d e : Cutter S F C s f) → SameOpening c d → SameOpening d e → SameOpening c e
-  same_again c d e p q = record { text = q.text ∙ p.text; searcher = q.searcher ∙ p.searcher; bound = q.bound ∙ p.bound }
+  same_again c d e p q =
+      record { text = q.text ∙ p.text; searcher = q.searcher ∙ p.searcher; bound = q.bound ∙ p.bound }
 
   -- a next on a cutter that was opened on the same is a step on that
-  pub step_on : (c d e : Cutter S F C s f) (p : Span) → SameOpening c d → Step (opening d) (state d) (next (Some p)) (state e) → Step (opening c) (state d) (next (Some p)) (state e)
+  pub step_on : (c d e : Cutter S F C s f) (p : Span) → SameOpening c d
+      → Step (opening d) (state d) (next (Some p)) (state e) → Step (opening c) (state d) (next (Some p)) (state e)
   step_on c d e p q h = subst (λ (o : Opening). Step o (state d) (next (Some p)) (state e)) (same_opening c d q) h

@@ -79,7 +79,8 @@ module _ {S F C : Type 0} {s : AnyStr.Ghosts S C} {f : Searcher.Ghosts F S C} wh
   Skips c n r d = Step (opening c) (state c) (skip n (coded r)) (state d)
 
   -- pour's answer, with the tray before it and after it, and the cutter after it
-  abbrev pub Pours : {Tray : Type 0} → (Tray → Contents) → Cutter S F C s f → S → Tray → Result (Unit {0}) Refusal → Cutter S F C s f → Tray → Type 0
+  abbrev pub Pours : {Tray : Type 0} → (Tray → Contents) → Cutter S F C s f → S → Tray → Result (Unit {0}) Refusal
+      → Cutter S F C s f → Tray → Type 0
   Pours contents c to tray r d tray' =
       Step (opening c) (state c) (pour (concat (s.elements to)) (contents tray) (coded r) (contents tray')) (state d)
 

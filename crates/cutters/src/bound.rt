@@ -2,10 +2,10 @@
 ghost use Rattle.std.specs.Prelude.{◌≡◌};
 ghost use Rattle.cuts.specs.Cuts.{fewer as few_cuts};
 
-// No bound: any negative number is none, as the methods are passed it.
+/// No bound: any negative number is none, as the methods are passed it.
 pub const UNBOUNDED: i64 = -1;
 
-// Whether the cuts made are fewer than the bound; a negative bound is no bound.
+/// Whether the cuts made are fewer than the bound; a negative bound is no bound.
 pub fn fewer(made: u64, bound: i64) -> bool
     ensures { result ≡ few_cuts made bound }
 {

@@ -77,7 +77,8 @@ pub fn play<S: AnyStr, F: Searcher<S> + Drop, T: AnyStrContainer>(
     trays: &mut [T],
     answers: &mut [Answer],
 ) -> Result<(), Refusal>
-    ensures plays { PlaysOut S.AnyStr T.contents (opening_of S.AnyStr F.Searcher text searcher bound) calls.now
+    ensures plays { PlaysOut S.AnyStr T.contents
+        (opening_of S.AnyStr F.Searcher text searcher bound) calls.now
         trays.old trays.new answers.old answers.new result }
     ensures cut { PlaysOn S.AnyStr text calls.now answers.new result }
     ensures same_loans { map T.loan trays.new ≡ map T.loan trays.old }

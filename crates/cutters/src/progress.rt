@@ -3,8 +3,8 @@ ghost use Rattle.std.specs.Prelude.{◌≡◌, false};
 ghost use Rattle.cuts.specs.Cuts.{at};
 ghost use Rattle.cutters.specs.Calls.{state_at};
 
-// The place, the cuts that are made, and whether the last piece is given. A flag, and no enum: a spent cutter has a
-// place and a number of cuts too.
+/// The place, the cuts that are made, and whether the last piece is given. A flag, and no enum: a spent cutter has a
+/// place and a number of cuts too.
 #[derive(Clone, Copy)]
 pub struct Progress {
     pub place: usize,
@@ -13,7 +13,7 @@ pub struct Progress {
 }
 
 impl Progress {
-    // At a place, with no cut made and no piece given.
+    /// At a place, with no cut made and no piece given.
     pub fn from_place(place: usize) -> Progress
         ensures { state_at result ≡ at place 0 false }
     {

@@ -3,13 +3,14 @@ use anystr::place::Place;
 use bytesinner::finds::either::Either;
 use bytesinner::lines::SplitLinesArgs;
 
-// The end of a text that a method begins at.
+/// The end of a text that a method begins at.
 #[derive(Clone, Copy)]
 pub enum End {
     Front,
     Back,
 }
 
+/// A split or an rsplit.
 #[derive(Drop)]
 pub struct Split {
     pub end: End,
@@ -19,6 +20,7 @@ pub struct Split {
     pub room: usize,
 }
 
+/// A split into lines.
 #[derive(Drop)]
 pub struct SplitLines {
     pub text: Vec<u8>,
@@ -26,6 +28,7 @@ pub struct SplitLines {
     pub room: usize,
 }
 
+/// A join of parts of a text.
 #[derive(Drop)]
 pub struct Join {
     pub sep: Vec<u8>,
@@ -34,6 +37,7 @@ pub struct Join {
     pub room: usize,
 }
 
+/// A replacement.
 #[derive(Drop)]
 pub struct Replace {
     pub text: Vec<u8>,
@@ -43,19 +47,21 @@ pub struct Replace {
     pub room: usize,
 }
 
+/// The element that begins at an offset.
 #[derive(Drop)]
 pub struct Element {
     pub text: Vec<u8>,
     pub offset: usize,
 }
 
+/// The part of a text between two offsets.
 #[derive(Drop)]
 pub struct Part {
     pub text: Vec<u8>,
     pub place: Place,
 }
 
-// What a searcher looks for.
+/// What a searcher looks for.
 #[derive(Drop)]
 pub enum Sought {
     Substring(Vec<u8>),
@@ -63,7 +69,7 @@ pub enum Sought {
     LineEnds,
 }
 
-// A call on a cutter.
+/// A call on a cutter.
 #[derive(Drop)]
 pub enum Request {
     Next,
@@ -72,7 +78,7 @@ pub enum Request {
     Pour { to: Vec<u8>, room: usize },
 }
 
-// What a searcher is asked.
+/// What a searcher is asked.
 #[derive(Drop)]
 pub enum Task {
     First { from: usize },
@@ -80,6 +86,7 @@ pub enum Task {
     Cut { bound: i64, requests: Vec<Request> },
 }
 
+/// A question to a searcher.
 #[derive(Drop)]
 pub struct Search {
     pub text: Vec<u8>,
@@ -87,7 +94,7 @@ pub struct Search {
     pub task: Task,
 }
 
-// What is asked of a text, whatever its kind.
+/// What is asked of a text, whatever its kind.
 #[derive(Drop)]
 pub enum Question {
     Split(Split),
@@ -99,6 +106,7 @@ pub enum Question {
     Search(Search),
 }
 
+/// A find, an rfind or a count.
 #[derive(Drop)]
 pub struct Find {
     pub text: Vec<u8>,
@@ -107,6 +115,7 @@ pub struct Find {
     pub end: Option<i64>,
 }
 
+/// A translation.
 #[derive(Drop)]
 pub struct Translate {
     pub text: Vec<u8>,
@@ -115,6 +124,7 @@ pub struct Translate {
     pub room: usize,
 }
 
+/// The making of a table.
 #[derive(Drop)]
 pub struct Maketrans {
     pub from: Vec<u8>,
@@ -122,6 +132,7 @@ pub struct Maketrans {
     pub room: usize,
 }
 
+/// A case: the call that a line asks for.
 #[derive(Drop)]
 pub enum Case {
     // of a text of bytes

@@ -6,8 +6,8 @@ use anystr::refusal::Refusal;
 use std::alloc::{AllocError, Global};
 use trays::buffer::Buffer;
 
-// The page that an answer is written on, bytes for a tray and entries for a list of places, all kept from line to
-// line.
+/// The page that an answer is written on, bytes for a tray and entries for a list of places, all kept from line to
+/// line.
 #[derive(Drop)]
 pub struct Desk {
     pub page: String,
@@ -24,6 +24,7 @@ fn lend<T: Copy + Default>(items: &mut Vec<T>, room: usize) -> Result<&mut [T], 
 }
 
 impl Desk {
+    /// A desk with an empty page.
     pub fn new(heap: Global) -> Desk {
         Desk {
             page: String::new(heap),

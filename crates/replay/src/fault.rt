@@ -2,6 +2,7 @@
 use anystr::refusal::Refusal;
 use std::alloc::AllocError;
 
+/// Why a case has no answer of its own.
 #[derive(Clone, Copy)]
 pub enum Fault {
     // the line is no case

@@ -11,7 +11,7 @@ use bytesinner::{join, maketrans, replace, translate};
 // What a tray holds is written after this word.
 const FILLED: &str = "bytes";
 
-// Parts of a text with another between them.
+/// Parts of a text with another between them.
 pub fn write_join<'a, S: Kind<'a>>(case: &'a Join, desk: &mut Desk) -> Result<(), Fault> {
     desk.fill(FILLED, case.room, |tray| {
         let sep = S::try_from(case.sep.as_slice())?;
@@ -20,7 +20,7 @@ pub fn write_join<'a, S: Kind<'a>>(case: &'a Join, desk: &mut Desk) -> Result<()
     })
 }
 
-// A text with another in place of a third.
+/// A text with another in place of a third.
 pub fn write_replace<'a, S: Kind<'a>>(case: &'a Replace, desk: &mut Desk) -> Result<(), Fault> {
     desk.fill(FILLED, case.room, |tray| {
         let text = S::try_from(case.text.as_slice())?;
@@ -30,7 +30,7 @@ pub fn write_replace<'a, S: Kind<'a>>(case: &'a Replace, desk: &mut Desk) -> Res
     })
 }
 
-// A text translated by a table.
+/// A text translated by a table.
 pub fn write_translate(case: &Translate, desk: &mut Desk) -> Result<(), Fault> {
     desk.fill(FILLED, case.room, |tray| {
         let text = Bytes::try_from(case.text.as_slice())?;
@@ -42,7 +42,7 @@ pub fn write_translate(case: &Translate, desk: &mut Desk) -> Result<(), Fault> {
     })
 }
 
-// A table made from two lists of bytes.
+/// A table made from two lists of bytes.
 pub fn write_maketrans(case: &Maketrans, desk: &mut Desk) -> Result<(), Fault> {
     desk.fill(FILLED, case.room, |tray| {
         let from = Bytes::try_from(case.from.as_slice())?;

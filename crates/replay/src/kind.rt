@@ -11,15 +11,15 @@ use text::Text;
 
 const ELEMENT: &str = "element";
 
-// A kind of text over bytes that live for 'a.
+/// A kind of text over bytes that live for 'a.
 pub trait Kind<'a>: AsciiStr + TryFrom<&'a [u8], Error = Refusal> {
-    // the searcher for the bytes of a set
+    /// the searcher for the bytes of a set
     type Set: ReverseSearcher<Self> + Drop;
 
-    // The set of the bytes; refused where they cannot be one.
+    /// The set of the bytes; refused where they cannot be one.
     fn make_set(bytes: &[u8]) -> Result<Self::Set, Refusal>;
 
-    // Writes the encoding of an element.
+    /// Writes the encoding of an element.
     fn write_element(element: Self::Char, page: &mut String) -> Result<(), AllocError>;
 }
 

@@ -8,7 +8,7 @@ use std::str::Split;
 // The most room that a tray or a list of places is given: a text can have as many pieces.
 const MAX_ROOM: usize = MAX_BYTES + 1;
 
-// The words that are still to be read; there is always a first one, perhaps empty.
+/// The words that are still to be read; there is always a first one, perhaps empty.
 #[derive(Drop)]
 pub struct Words<'a> {
     words: Split<'a, char>,
@@ -16,6 +16,7 @@ pub struct Words<'a> {
 }
 
 impl<'a> Words<'a> {
+    /// The words of a text between separators.
     pub fn new(text: &'a str, separator: char, heap: Global) -> Words<'a> {
         Words {
             words: text.split(separator),
@@ -23,16 +24,17 @@ impl<'a> Words<'a> {
         }
     }
 
+    /// The next word; no case where there is none.
     pub fn word(&mut self) -> Result<&'a str, Fault> {
         self.words.next().ok_or(Fault::NoCase)
     }
 
-    // What the next word stands for.
+    /// What the next word stands for.
     pub fn read<T: FromWord>(&mut self) -> Result<T, Fault> {
         T::from_word(self.word()?, self.heap)
     }
 
-    // The room of a tray or a list of places.
+    /// The room of a tray or a list of places.
     pub fn room(&mut self) -> Result<usize, Fault> {
         let room = self.read()?;
         if room > MAX_ROOM {
@@ -41,7 +43,7 @@ impl<'a> Words<'a> {
         Ok(room)
     }
 
-    // What the words that are left stand for, one each.
+    /// What the words that are left stand for, one each.
     pub fn rest<T: FromWord + Drop>(&mut self) -> Result<Vec<T>, Fault> {
         let heap = self.heap;
         self.words
@@ -50,7 +52,7 @@ impl<'a> Words<'a> {
             .try_collect(heap)
     }
 
-    // Ends the reading; a word that is left is one too many.
+    /// Ends the reading; a word that is left is one too many.
     pub fn finish(mut self) -> Result<(), Fault> {
         match self.words.next() {
             None => Ok(()),

@@ -6,7 +6,7 @@ use super::kind::Kind;
 use bytesinner::splitargs::SplitArgs;
 use bytesinner::{rsplit, split, splitlines};
 
-// The pieces of a text, cut from one of its ends.
+/// The pieces of a text, cut from one of its ends.
 pub fn write_split<'a, S: Kind<'a>>(case: &'a Split, desk: &mut Desk) -> Result<(), Fault> {
     desk.list(case.room, |places| {
         let text = S::try_from(case.text.as_slice())?;
@@ -27,7 +27,7 @@ pub fn write_split<'a, S: Kind<'a>>(case: &'a Split, desk: &mut Desk) -> Result<
     })
 }
 
-// The lines of a text.
+/// The lines of a text.
 pub fn write_splitlines<'a, S: Kind<'a>>(
     case: &'a SplitLines,
     desk: &mut Desk,

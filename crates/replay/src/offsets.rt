@@ -32,7 +32,7 @@ pub(super) fn write_find<
     Ok(())
 }
 
-// How often it stands there.
+/// How often it stands there.
 pub fn write_count(case: &Find, page: &mut String) -> Result<(), Fault> {
     let text = Bytes::try_from(case.text.as_slice())?;
     let times = count(&text, options(case))?;

@@ -2,7 +2,7 @@
 use super::fault::Fault;
 use std::alloc::AllocError;
 
-// Writes a word and a byte string: `x` and two hexadecimal digits for each byte.
+/// Writes a word and a byte string: `x` and two hexadecimal digits for each byte.
 pub fn write_bytes(word: &str, bytes: &[u8], page: &mut String) -> Result<(), AllocError> {
     write!(page, "{word} x")?;
     for b in bytes {
@@ -11,7 +11,7 @@ pub fn write_bytes(word: &str, bytes: &[u8], page: &mut String) -> Result<(), Al
     Ok(())
 }
 
-// Writes what kept a line, or a call on a cutter, from an answer. Only want of memory is left to the caller.
+/// Writes what kept a line, or a call on a cutter, from an answer. Only want of memory is left to the caller.
 pub fn settle(answered: Result<(), Fault>, page: &mut String) -> Result<(), AllocError> {
     match answered {
         Ok(()) => Ok(()),

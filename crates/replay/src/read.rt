@@ -227,7 +227,7 @@ fn case(words: &mut Words<'_>) -> Result<Case, Fault> {
     }
 }
 
-// The case of a line; no word may be left over.
+/// The case of a line; no word may be left over.
 pub fn read_case(line: &str, heap: Global) -> Result<Case, Fault> {
     let mut words = Words::new(line, ' ', heap);
     let case = case(&mut words)?;

@@ -86,7 +86,7 @@ fn substring<'a, S: Kind<'a>>(needle: &'a [u8]) -> Result<Substring<S>, Refusal>
     Ok(Substring::new(needle))
 }
 
-// What a searcher finds, or what the calls on a cutter give.
+/// What a searcher finds, or what the calls on a cutter give.
 pub fn write_search<'a, S: Kind<'a>>(case: &'a Search, desk: &mut Desk) -> Result<(), Fault> {
     let text = S::try_from(case.text.as_slice())?;
     match &case.sought {

@@ -45,7 +45,7 @@ fn write_line(line: &[u8], heap: Global, desk: &mut Desk) -> Result<(), Fault> {
     write_case(&read_case(line, heap)?, desk)
 }
 
-// What is kept from line to line.
+/// What is kept from line to line.
 #[derive(Drop)]
 pub struct Session {
     heap: Global,
@@ -53,6 +53,7 @@ pub struct Session {
 }
 
 impl Session {
+    /// A session that has answered nothing.
     pub fn new(heap: Global) -> Session {
         Session {
             heap,
@@ -60,7 +61,7 @@ impl Session {
         }
     }
 
-    // The answer to a line, with its line end; an error where there is too little memory.
+    /// The answer to a line, with its line end; an error where there is too little memory.
     pub fn answer(&mut self, line: &[u8]) -> Result<&str, AllocError> {
         self.desk.page.clear();
         let answered = write_line(line, self.heap, &mut self.desk);

@@ -5,7 +5,7 @@ use super::kind::Kind;
 use super::page::write_bytes;
 use anystr::place::Place;
 
-// The element that begins at an offset.
+/// The element that begins at an offset.
 pub fn write_element<'a, S: Kind<'a>>(case: &'a Element, page: &mut String) -> Result<(), Fault> {
     let text = S::try_from(case.text.as_slice())?;
     match text.element_at(case.offset) {
@@ -15,7 +15,7 @@ pub fn write_element<'a, S: Kind<'a>>(case: &'a Element, page: &mut String) -> R
     Ok(())
 }
 
-// A stretch of a text.
+/// A stretch of a text.
 pub fn write_part<'a, S: Kind<'a>>(case: &'a Part, page: &mut String) -> Result<(), Fault> {
     let text = S::try_from(case.text.as_slice())?;
     let Place { start, end } = case.place;

@@ -2,6 +2,7 @@
 use std::alloc::AllocError;
 use std::{fmt, io};
 
+/// What keeps the program from its answers.
 #[derive(Drop)]
 pub enum Trouble {
     // the standard input or output fails

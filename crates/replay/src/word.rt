@@ -5,8 +5,9 @@ use std::str::FromStr;
 
 const ABSENT: &str = "-";
 
-// What a word can be read as.
+/// What a word can be read as.
 pub trait FromWord: Sized {
+    /// What the word says; no case where it says nothing of this type.
     fn from_word(word: &str, heap: Global) -> Result<Self, Fault>;
 }
 

@@ -5,4 +5,5 @@ use Rattle.anystr.specs.Elements.{Boundary}
 
 -- a byte below 128 stands between boundaries
 abbrev pub AsciiApart : List (List ℕ) → Type 0
-AsciiApart es = (p : ℕ) → p < length (concat es) → slice_index (concat es) p < 128 → Boundary es p × Boundary es (suc p)
+AsciiApart es =
+    (p : ℕ) → p < length (concat es) → slice_index (concat es) p < 128 → Boundary es p × Boundary es (suc p)

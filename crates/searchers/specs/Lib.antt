@@ -1,5 +1,4 @@
 pub mod Marks
-pub mod Truth
 pub mod Ascii
 pub mod substring
 pub mod bytesets

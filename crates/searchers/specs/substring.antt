@@ -1,1 +1,2 @@
 pub mod Occurrences
+pub mod Substrings

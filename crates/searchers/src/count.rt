@@ -4,9 +4,9 @@ ghost use Rattle.searchers.specs.Marks.{CutTimes};
 use super::searcher::Searcher;
 use anystr::anystr::AnyStr;
 
-// How many marks are cut from the front, without overlap.
+/// The number of marks that are cut from the front, without overlap.
 pub fn count_marks<S: AnyStr, F: Searcher<S>>(searcher: &F, text: &S) -> usize
-    ensures { CutTimes (F.Searcher.marks searcher.now (S.AnyStr.elements text.now)) 0 result }
+    ensures { CutTimes (F.marks searcher.now (S.elements text.now)) 0 result }
 {
     // not `successors(..).count()`: the library knows no end of its items
     let mut count = 0;

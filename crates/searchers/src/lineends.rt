@@ -1,7 +1,8 @@
 // The search for line ends.
 
-ghost use Rattle.std.specs.Prelude.{◌≡◌, ◌<◌, ◌==◌, T, length, slice_index};
+ghost use Rattle.std.specs.Prelude.{◌≡◌, ◌<◌, ◌==◌, IsTrue, length, slice_index};
 ghost use Rattle.std.specs.List.{concat};
+ghost use Rattle.anystr.specs.Texts.{bytes_of};
 ghost use Rattle.searchers.specs.lineends.Lines.{line_end, line_end-lawful};
 ghost use Rattle.searchers.specs.lineends.OnText.{line-ends_on};
 
@@ -10,7 +11,7 @@ use crate::mark::Mark;
 use crate::scan::Pattern;
 use crate::searcher::{ReverseSearcher, Searcher};
 
-// A searcher whose marks are `\r\n`, `\r` that no `\n` follows, and `\n` that no `\r` precedes.
+/// A searcher whose marks are `\r\n`, `\r` that no `\n` follows, and `\n` that no `\r` precedes.
 #[derive(Clone, Copy)]
 pub struct LineEnds;
 
@@ -18,7 +19,7 @@ pub struct LineEnds;
 fn is_at(bytes: &[u8], offset: usize, byte: u8) -> bool
     requires { 0 < byte }
     ensures value { result ≡ (slice_index bytes.now offset == byte) }
-    ensures within { T result → offset < length bytes.now }
+    ensures within { IsTrue result → offset < length bytes.now }
 {
     bytes.get(offset) == Some(&byte)
 }
@@ -55,7 +56,7 @@ impl AsciiPattern for LineEnds {
 impl<S: AsciiStr> Searcher<S> for LineEnds {
     ghost marks = { λ _ es. line_end (concat es) };
 
-    ghost lawful = { λ _ text. line_end-lawful (concat (S.AnyStr.elements text)) };
+    ghost lawful = { λ _ text. line_end-lawful (bytes_of S.AnyStr text) };
 
     fn find(&self, text: &S, from: usize) -> Option<Mark> {
         first_ascii_mark(self, text, from)

@@ -1,15 +1,16 @@
 -- The number of cuts, by what a search answers and by the rule of a cutter.
-use Rattle.std.proofs.Common.{◌≡◌, ℕ, zero, suc, ◌+◌, ◌<◌, ◌≤◌, leb, List, [], ◌∷◌, length, sym, ap, ◌∙◌, subst, arith}
+use Rattle.std.proofs.Common.{◌≡◌, ℕ, zero, suc, ◌+◌, ◌<◌, ◌≤◌, leb, List, [], ◌∷◌, length}
+use Rattle.std.proofs.Common.{refl, sym, ap, ◌∙◌, subst, arith}
 use Rattle.std.proofs.lemmas.List.{nil_from_length}
 use Rattle.std.proofs.lemmas.Bool.{le-leb, lt-leb, cond-true, cond-false, leb-false, cond_both}
 use Rattle.searchers.specs.Marks.{Span, CutTimes}
 use Rattle.searchers.specs.substring.Occurrences.{occurrence, occurrence-lawful}
 use Rattle.cuts.specs.Cuts.{cut_from}
 use Rattle.cuts.specs.Runs.{CutRule}
-use Rattle.cuts.proofs.Found.{cut-found, none_found}
+use Rattle.cuts.proofs.Found.{cut_found, none_found}
 use Rattle.cuts.proofs.Greedy.{greedy_rule}
 use Rattle.cuts.proofs.Listed.{greedy_cuts}
-use Rattle.cuts.proofs.Reach.{to_the_end, length-marks}
+use Rattle.cuts.proofs.Reach.{to_the_end, length-marks_of}
 use Rattle.bytesinner.specs.Openings.{unbounded, opening_at}
 use Rattle.bytesinner.specs.finds.Counts.{times, count_of, CutUp, Number}
 use Rattle.anystr.specs.Places.{part}
@@ -21,7 +22,7 @@ cuts-are : (n bs : List ℕ) (made place k : ℕ) → CutTimes (occurrence n bs)
 cuts-are n bs made place zero none =
     ap length (none_found (opening_at bs n unbounded) (occurrence-lawful n bs) made place none)
 cuts-are n bs made place (suc k) (s, e, least, rest) =
-    ap length (cut-found (opening_at bs n unbounded) (occurrence-lawful n bs) made place s e tt least)
+    ap length (cut_found (opening_at bs n unbounded) (occurrence-lawful n bs) made place s e refl least)
     ∙ ap suc (cuts-are n bs (suc made) e k rest)
 
 -- so many times the needle is cut
@@ -40,7 +41,7 @@ cut_up n bs =
       tail = end.1;
       lie = end.3;
       rule = subst (λ (cut : List Span). CutRule (occurrence n bs) unbounded (length bs) cut) end.2 rule;
-      number = sym (ap length end.2 ∙ length-marks end.0);
+      number = sym (ap length end.2 ∙ length-marks_of end.0);
     }
 
 -- the count of an empty needle, and of one that is not

@@ -1,12 +1,11 @@
 -- Where a needle stands, by the definitions and by what a search of a part answers.
-use Rattle.std.proofs.Common.{◌≡◌, ℕ, suc, ◌+◌, ◌-◌, ◌<◌, ◌≤◌, Bool, true, false, cond, T, leb, List, [], ◌∷◌, length}
+use Rattle.std.proofs.Common.{◌≡◌, ℕ, suc, ◌+◌, ◌-◌, ◌<◌, ◌≤◌, Bool, true, false, cond, IsTrue, leb, List, [], ◌∷◌, length}
 use Rattle.std.proofs.Common.{take, drop, Some, None, Option, sym, refl, ap, ◌∙◌, ⊎_elim, le_refl, arith, length-take}
 use Rattle.std.specs.Option.{option_or}
 use Rattle.std.proofs.lemmas.List.{take-take, nil_from_length}
 use Rattle.std.proofs.lemmas.Bool.{both_ways, cases_eq, cond_both, leb-true, leb-false, lt-ltb, eq-eqb, and_from}
 use Rattle.anystr.specs.OfBytes.{occurs-within}
 use Rattle.searchers.specs.Marks.{Least, Greatest, NoneFrom, NoneBefore}
-use Rattle.searchers.specs.Truth.{truth}
 use Rattle.searchers.specs.substring.Occurrences.{begins_with, occurrence, occurrence-is, taken}
 use Rattle.searchers.proofs.substring.Needles.{begun}
 use Rattle.anystr.specs.Places.{part}
@@ -134,15 +133,15 @@ module _ (bs n : List ℕ) (b : ℕ) (within : b ≤ length bs) where
   -- what a search of the part answers
   module _ (a : ℕ) (le : a ≤ b) where
     -- a place is a mark of the part
-    marked : (p : ℕ) → 0 < length n → Stands bs n a b p → T (occurrence n (part bs (a, b)) (p - a) ((p - a) + length n))
+    marked : (p : ℕ) → 0 < length n → Stands bs n a b p → IsTrue (occurrence n (part bs (a, b)) (p - a) ((p - a) + length n))
     marked p some s =
         let back : a + (p - a) ≡ p = omega (arith, s.after) in
         let rest = drop-part bs a b (p - a) (omega (arith, s.after, s.ahead)) ∙ ap (λ q. part bs (q, b)) back in
         let begins = ap (begins_with n) rest ∙ stood a p s in
-        truth _ (and_from _ _ (lt-ltb 0 (length n) some) (and_from _ _ (eq-eqb _ _ refl) begins))
+        (and_from _ _ (lt-ltb 0 (length n) some) (and_from _ _ (eq-eqb _ _ refl) begins))
 
     -- and a mark of the part is a place
-    at_mark : (s e : ℕ) → T (occurrence n (part bs (a, b)) s e) → Stands bs n a b (a + s)
+    at_mark : (s e : ℕ) → IsTrue (occurrence n (part bs (a, b)) s e) → Stands bs n a b (a + s)
     at_mark s e m =
         let o = occurrence-is n (part bs (a, b)) s e m in
         let fits : a + s ≤ b =

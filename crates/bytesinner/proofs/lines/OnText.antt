@@ -4,7 +4,6 @@ use Rattle.std.specs.List.{concat}
 use Rattle.anystr.specs.Elements.{Boundary, Cut}
 use Rattle.searchers.specs.Ascii.{AsciiApart}
 use Rattle.searchers.specs.Marks.{Span}
-use Rattle.searchers.specs.Truth.{truth}
 use Rattle.searchers.specs.lineends.Lines.{line_end-lawful}
 use Rattle.searchers.specs.lineends.OnText.{line-ends_on}
 use Rattle.anystr.proofs.Boundaries.{end_on}
@@ -18,7 +17,7 @@ module _ (es : List (List ℕ)) (apart : AsciiApart es) where
   read-cut : {p : ℕ} {ls ks : List Span} → Boundary es p → Reads (concat es) p ls ks → Cuttable es ls × Cuttable es ks
   read-cut at (ended is) = (cuttable-nil es, cuttable-nil es)
   read-cut at (line {a = a} {e = e} from clear end more) =
-      let mark = truth _ (is-mark (concat es) a e end) in
+      let mark = is-mark (concat es) a e end in
       let on = line-ends_on es apart a e mark in
       let long = (line_end-lawful (concat es)).nonempty a e mark in
       let rest = read-cut on.1 more in (

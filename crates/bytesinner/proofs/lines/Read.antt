@@ -8,7 +8,6 @@ use Rattle.std.proofs.lemmas.Bool.{eq-eqb, ne_eqb, ltb-true, ltb-false, le-ltb, 
 use Rattle.std.proofs.lemmas.Bool.{or_right, not_from_false, cases_lt, cases_eq, cond_both}
 use Rattle.anystr.specs.Places.{part}
 use Rattle.searchers.specs.Marks.{Span}
-use Rattle.searchers.specs.Truth.{truth}
 use Rattle.searchers.specs.lineends.Lines.{cr, lf, line_end, LineEnd, pair, lone_cr, lone_lf, line_end-is}
 use Rattle.searchers.specs.lineends.Lines.{line_end-lawful}
 use Rattle.cuts.specs.Cuts.{between, cuts, all_marks}
@@ -78,7 +77,7 @@ reads-from : (bs : List ℕ) (n p : ℕ) (ms : List Span) → Greedy (line_end b
     → ReadAs bs p (filled_pieces (between p (length bs) ms))
 reads-from bs n p [] g apart =
     let none : (b d : ℕ) → p ≤ b → b < length bs → LineEnd bs b d → ⊥ =
-    λ b d ge lt m. g.1 tt b d (truth _ (is-mark bs b d m)) ge lt in
+    λ b d ge lt m. g.1 refl b d (is-mark bs b d m) ge lt in
     cond_both (ltb p (length bs)) ((p, length bs) ∷ []) [] (ReadAs bs p)
     (λ is. last (ltb-true p (length bs) is) (bare bs p (length bs) apart none))
     (λ no. ended (omega (arith, ltb-false p (length bs) no, g.0)))
@@ -88,7 +87,7 @@ reads-from bs n p (m ∷ ms) g apart =
     let end : LineEnd bs m.0 m.1 = line_end-is bs m.0 m.1 least.is in
     let others : List Span = filled_pieces (between m.1 len ms) in
     let none : (b d : ℕ) → p ≤ b → b < m.0 → LineEnd bs b d → ⊥ =
-    λ b d ge lt k. let le = least.least b d ge (truth _ (is-mark bs b d k)) in omega arith in
+    λ b d ge lt k. let le = least.least b d ge (is-mark bs b d k) in omega arith in
     let rest = reads-from bs (suc n) m.1 ms g.2 (apart_after bs m.0 m.1 end) in
     let here : Reads bs p ((p, m.0) ∷ others) ((p, m.1) ∷ with_ends len others) =
     line least.after (bare bs p m.0 apart none) end rest in
@@ -100,7 +99,7 @@ reads-from bs n p (m ∷ ms) g apart =
 whole_from : (bs : List ℕ) {p : ℕ} {ls ks : List Span} → Reads bs p ls ks → concat (map (part bs) ks) ≡ drop p bs
 whole_from bs {p} (ended is) = sym (drop_all p bs (omega arith))
 whole_from bs {p} (line {a = a} {e = e} from clear end more) =
-    let mark = truth _ (is-mark bs a e end) in
+    let mark = is-mark bs a e end in
     let long = (line_end-lawful bs).nonempty a e mark in
     let z : p + (e - p) ≡ e = omega arith in
     let rest = whole_from bs more ∙ ap (λ (j : ℕ). drop j bs) (sym z) ∙ sym (drop-drop (e - p) p bs) in

@@ -8,7 +8,7 @@ use Rattle.anystr.specs.Limits.{most_bytes}
 use Rattle.anystr.proofs.Walking.{count-within}
 use Rattle.searchers.specs.substring.Occurrences.{occurrence, occurrence-lawful}
 use Rattle.cuts.specs.Cuts.{all_marks, cut_from, poured}
-use Rattle.cuts.proofs.Sizes.{cuts-within, poured-within}
+use Rattle.cuts.proofs.Sizes.{cuts_within, poured_within}
 use Rattle.bytesinner.specs.Openings.{opening_at}
 use Rattle.bytesinner.specs.replaces.Replaces.{most_result, spread_text, copy_count, poured_text, replaced_text}
 use Rattle.bytesinner.specs.replaces.Replaces.{if_short, ReplaceLaw}
@@ -51,9 +51,9 @@ cut-within es from to bound =
     let on = opening_at (concat es) from bound in
     let law = occurrence-lawful from (concat es) in
     let ms = cut_from on 0 0 in
-    let few = cuts-within on law ms 0 0 (omega arith) refl in
+    let few = cuts_within on law ms 0 0 (omega arith) refl in
     let times : length ms * length to ≤ suc n * length to = mul-le-mul (omega arith) (omega arith) in
-    omega (arith, poured-within on law to ms 0 0 (omega arith) refl)
+    omega (arith, poured_within on law to ms 0 0 (omega arith) refl)
 
 -- a result within the limits is not too long
 pub short : (bytes all to : List ℕ) → length all ≤ most_bytes → length to ≤ most_bytes

@@ -1,5 +1,5 @@
 -- What the written places keep.
-use Rattle.std.proofs.Common.{◌≡◌, ℕ, ◌-◌, T, List, [], ◌∷◌, length, take, drop, ℤ, Ok, Err, Result, sym}
+use Rattle.std.proofs.Common.{◌≡◌, ℕ, ◌-◌, IsTrue, List, [], ◌∷◌, length, take, drop, ℤ, Ok, Err, Result, sym}
 use Rattle.std.proofs.Common.{refl, ap, ◌∙◌, subst, arith}
 use Rattle.std.specs.List.{concat}
 use Rattle.anystr.specs.Elements.{Boundary, OccursOnBoundaries}
@@ -10,7 +10,7 @@ use Rattle.searchers.specs.Marks.{Span}
 use Rattle.searchers.specs.substring.Occurrences.{occurrence, occurrence-is, occurrence-lawful}
 use Rattle.cuts.specs.Runs.{In}
 use Rattle.cuts.specs.Splits.{SplitBy}
-use Rattle.cuts.proofs.Splits.{split-rule, rsplit-rule, split-restores, split-on}
+use Rattle.cuts.proofs.Splits.{split-rule, rsplit-rule, split_restores, split_on}
 use Rattle.anystr.proofs.Boundaries.{end_on}
 use Rattle.bytesinner.specs.Written.{OfWritten, Cuttable}
 use Rattle.bytesinner.specs.splits.Separated.{unless_empty, split_of, rsplit_of, SplitFront, SplitBack, Restore}
@@ -24,7 +24,7 @@ split_written P [] ps p list list' (Err e) h = tt
 split_written P (b ∷ bs) ps p list list' r h = written P ps p list list' r h
 
 -- an occurrence of the separator reads as it
-reads : (bytes sep : List ℕ) (m : Span) → T (occurrence sep bytes m.0 m.1) → part bytes m ≡ sep
+reads : (bytes sep : List ℕ) (m : Span) → IsTrue (occurrence sep bytes m.0 m.1) → part bytes m ≡ sep
 reads bytes sep m is =
     let o = occurrence-is sep bytes m.0 m.1 is in
     let long : m.1 - m.0 ≡ length sep = omega arith in
@@ -32,7 +32,7 @@ reads bytes sep m is =
 
 -- and begins and ends at boundaries
 on-boundaries : (es : List (List ℕ)) (sep : List ℕ) → OccursOnBoundaries es sep → (m : Span)
-    → T (occurrence sep (concat es) m.0 m.1) → Boundary es m.0 × Boundary es m.1
+    → IsTrue (occurrence sep (concat es) m.0 m.1) → Boundary es m.0 × Boundary es m.1
 on-boundaries es sep whole m is =
     let o = occurrence-is sep (concat es) m.0 m.1 is in
     let b = whole m.0 o.nonempty o.occurs in
@@ -47,7 +47,7 @@ pub record Kept (Split : List Span → Type 0) (es : List (List ℕ)) (sep : Lis
 
 -- they hold where each cut of the rule is an occurrence of the separator
 module _ (Rule : List Span → Type 0) (es : List (List ℕ)) (sep : List ℕ) (whole : OccursOnBoundaries es sep)
-    (marked : (cut : List Span) → Rule cut → (m : Span) → In m cut → T (occurrence sep (concat es) m.0 m.1))
+    (marked : (cut : List Span) → Rule cut → (m : Span) → In m cut → IsTrue (occurrence sep (concat es) m.0 m.1))
     (ps : List Span) (by : SplitBy Rule (length (concat es)) ps) where
   -- what is cut begins and ends at boundaries, and reads as the separator
   bounded : (cut : List Span) → Rule cut → (m : Span) → In m cut → Boundary es m.0 × Boundary es m.1
@@ -58,13 +58,13 @@ module _ (Rule : List Span → Type 0) (es : List (List ℕ)) (sep : List ℕ) (
 
   cuttable : Cuttable es ps
   cuttable p h =
-      let on = split-on (Boundary es) Rule (length (concat es)) ps (0, refl) (end_on es) bounded by p h in
+      let on = split_on (Boundary es) Rule (length (concat es)) ps (0, refl) (end_on es) bounded by p h in
       record { order = on.0; start = on.1; end = on.2 }
 
   kept : (list list' : List Place) (r : Result ℕ Refusal) → Lists (unless_empty sep ps) list list' r
       → Kept (SplitBy Rule (length (concat es))) es sep list' r
   kept list list' r h =
-      let restores = split-restores Rule sep (concat es) ps read by in
+      let restores = split_restores Rule sep (concat es) ps read by in
       record {
         rule = split_written (SplitBy Rule (length (concat es))) sep ps by list list' r h;
         restores = split_written (Restore (concat es) sep) sep ps restores list list' r h;

@@ -5,7 +5,7 @@ use Rattle.std.proofs.Common.{◌∙◌, subst, arith}
 use Rattle.std.proofs.lemmas.Bool.{lt-ltb, le-ltb, ltb-true, ltb-false, cond_both}
 use Rattle.searchers.specs.Marks.{Span, Lawful}
 use Rattle.cuts.specs.Cuts.{Opening, size, State, at, cut_from, between, next_of, after_cut}
-use Rattle.cuts.proofs.Found.{listed-past}
+use Rattle.cuts.proofs.Found.{marks_from_past}
 use Rattle.cuts.proofs.Left.{first}
 use Rattle.cuts.proofs.Yielding.{GivesFirst}
 use Rattle.bytesinner.specs.lines.Lines.{filled_pieces, start_or, with_ends, lines_from, lines_left, line_of, next_line}
@@ -55,7 +55,7 @@ module _ (on : Opening) (law : Lawful on.marks (size on)) (keep : Bool) where
   none_left : (place made : ℕ) (spent : Bool) → size on ≤ place → lines_left on keep (at place made spent) ≡ []
   none_left place made true past = no_lines keep (size on)
   none_left place made false past =
-      let no_cut = listed-past on.marks on.bound made place 0 (size on) (omega arith) in
+      let no_cut = marks_from_past on.marks on.bound made place 0 (size on) (omega arith) in
       ap (lines_between place) no_cut
       ∙ ap (as_kept keep (size on)) (no_line place (size on) past) ∙ no_lines keep (size on)
 

@@ -7,7 +7,7 @@ use Rattle.anystr.specs.declared.anystr.AnyStr
 use Rattle.searchers.specs.Marks.{Lawful}
 use Rattle.searchers.specs.declared.searcher.Searcher
 use Rattle.cuts.specs.Cuts.{size, pieces_left}
-use Rattle.cuts.proofs.Sizes.{pieces-few}
+use Rattle.cuts.proofs.Sizes.{pieces_few}
 use Rattle.cuts.proofs.Yielding.{seen_yields}
 use Rattle.cutters.specs.Calls.{span}
 use Rattle.cutters.specs.pieces.Sources.{CountsDown}
@@ -34,5 +34,5 @@ module _ {S F C : Type 0} {s : AnyStr.Ghosts S C} {f : Searcher.Ghosts F S C} (l
   counts_down few = record {
     all = refl;
     few = lines_from-few l.keepends (size (opening l)) (suc most_bytes) (pieces_left (opening l) (state l))
-        (pieces-few (opening l) law few (state l));
+        (pieces_few (opening l) law few (state l));
   }

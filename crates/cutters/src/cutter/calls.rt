@@ -1,7 +1,9 @@
 // The calls on a cutter.
-ghost use Rattle.std.specs.Prelude.{◌≡◌, ◌-◌, ◌≤◌, true, false, cond, [], length, take, drop, Some};
-ghost use Rattle.std.specs.List.{concat};
+ghost use Rattle.std.specs.Prelude.{◌≡◌, ◌-◌, ◌≤◌, true, false, if◌then◌else◌};
+ghost use Rattle.std.specs.Prelude.{[], length, take, drop};
+ghost use Rattle.std.specs.Prelude.{Some};
 ghost use Rattle.anystr.specs.Limits.{most_bytes};
+ghost use Rattle.anystr.specs.Texts.{bytes_of};
 ghost use Rattle.trays.specs.Trays.{gained};
 ghost use Rattle.cuts.specs.Cuts.{at, at_opening, poured_out, size};
 ghost use Rattle.cuts.specs.Runs.{RunsLaw};
@@ -27,7 +29,7 @@ fn stretch(bytes: &[u8], start: usize, end: usize) -> &[u8]
 
 // The bytes that come after a piece: those of `to`, and none after the last piece.
 fn gap_after<S: AnyStr>(progress: Progress, to: &S) -> &[u8]
-    ensures { result.now ≡ cond progress.spent [] (concat (S.elements to.now)) }
+    ensures { result.now ≡ (if progress.spent then [] else bytes_of S.AnyStr to.now) }
 {
     if progress.spent { &[] } else { to.as_bytes() }
 }
@@ -153,7 +155,8 @@ impl<S: AnyStr, F: Searcher<S>> Cutter<S, F> {
     fn pour_pieces<T: AnyStrContainer>(&mut self, to: &S, tray: &mut T)
         requires unspent { (state self.old).spent ≡ false }
         requires fits { length (poured_by self.old to.now) ≤ length (T.contents tray.old).spare }
-        ensures gained { T.contents tray.new ≡ gained (T.contents tray.old) (poured_by self.old to.now) }
+        ensures gained { T.contents tray.new
+            ≡ gained (T.contents tray.old) (poured_by self.old to.now) }
         ensures same_loan { T.loan tray.new ≡ T.loan tray.old }
         ensures after { state self.new ≡ poured_out (opening self.old) (state self.old) }
         ensures same { SameOpening self.old self.new }

@@ -9,8 +9,8 @@ use anystr::anystr::AnyStr;
 use searchers::searcher::Searcher;
 
 /// The pieces that a cutter has left, one after another.
-// A type of its own: a cutter that is an iterator would have two calls named `skip`, and a call on a cutter by value
-// would be the iterator's.
+/// A type of its own: a cutter that is an iterator would have two calls named `skip`, and a call on a cutter by value
+/// would be the iterator's.
 #[derive(Drop)]
 #[derive_where(Clone, Copy; F: Copy)]
 pub struct PiecesLeft<S: AnyStr, F: Searcher<S>> {

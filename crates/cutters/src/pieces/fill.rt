@@ -10,7 +10,8 @@ use anystr::refusal::Refusal;
 
 /// Whether a list has room for so many places; refused (7, with their number) where it has fewer entries.
 pub fn room(needed: usize, places: &[Place]) -> Result<usize, Refusal>
-    ensures { coded result ≡ (if nat_le needed (length places.now) then Ok needed else Err (7, needed)) }
+    ensures { coded result
+        ≡ (if nat_le needed (length places.now) then Ok needed else Err (7, needed)) }
 {
     if needed <= places.len() {
         Ok(needed)
@@ -38,7 +39,7 @@ pub fn fill<P: Pieces>(source: &mut P, places: &mut [Place])
 
 /// Writes all the pieces of a source into the list, and gives their number. A list with too few entries is refused (7,
 /// with the number of pieces), and is as it was.
-// They are counted first, in a copy of the source.
+/// They are counted first, in a copy of the source.
 pub fn list<P: Pieces + Copy>(mut source: P, places: &mut [Place]) -> Result<usize, Refusal>
     ensures { Lists (Ok (P.left source)) places.old places.new result }
 {

@@ -1,15 +1,14 @@
 // What gives pieces, and those of a cutter as such.
-ghost use Rattle.std.specs.Prelude.{List, Option, refl};
+ghost use Rattle.std.specs.Prelude.{List, Option};
 ghost use Rattle.std.specs.Iterator.{YieldsFirstBy};
 ghost use Rattle.std.specs.Iterator.Adapters.{skip_source};
 ghost use Rattle.searchers.specs.Marks.{Span};
-ghost use Rattle.cuts.proofs.Sizes.{pieces-few};
 ghost use Rattle.cutters.specs.declared.piece.Piece.{Piece};
-ghost use Rattle.cutters.specs.Calls.{opening, state, span, left_pieces};
+ghost use Rattle.cutters.specs.Calls.{span, left_pieces};
 ghost use Rattle.cutters.specs.pieces.Lefts.{cutter_of};
 ghost use Rattle.cutters.specs.pieces.Skipped.{left_after, skip_counts, skip_gives};
 ghost use Rattle.cutters.specs.pieces.Sources.{CountsDown};
-ghost use Rattle.cutters.specs.pieces.Yields.{next-yields};
+ghost use Rattle.cutters.specs.pieces.Yields.{next_yields, counts_down};
 
 use crate::cutter::iter::PiecesLeft;
 use crate::piece::Piece;
@@ -27,7 +26,8 @@ pub trait Pieces: Iterator<Item = Piece> {
     ghost asked: { (s : Self) → Self.can_next s };
 
     // it is the first of those that are left; none comes exactly where none is left
-    ghost gives: { (s : Self) (r : Option Piece) (t : Self) → Self.next_gives s r t → YieldsFirstBy span left s r t };
+    ghost gives: { (s : Self) (r : Option Piece) (t : Self)
+        → Self.next_gives s r t → YieldsFirstBy span left s r t };
 
     // as many come as are left, at most one more than a text can have bytes
     ghost counts: { (s : Self) → CountsDown (Self.remaining s) (left s) };
@@ -38,9 +38,9 @@ impl<S: AnyStr, F: Searcher<S> + Drop> Pieces for PiecesLeft<S, F> {
 
     ghost asked = { λ _. tt };
 
-    ghost gives = { λ s r t h. next-yields (cutter_of s) (cutter_of t) r (F.Searcher.lawful s.cutter.searcher s.cutter.text) h };
+    ghost gives = { λ s r t. next_yields F.Searcher.lawful (cutter_of s) (cutter_of t) r };
 
-    ghost counts = { λ s. record { all = refl; few = pieces-few (opening s.cutter) (F.Searcher.lawful s.cutter.searcher s.cutter.text) (S.AnyStr.few s.cutter.text) (state s.cutter) } };
+    ghost counts = { λ s. counts_down F.Searcher.lawful S.AnyStr.few (cutter_of s) };
 }
 
 // Without its first pieces, a source is one too.
@@ -51,5 +51,6 @@ impl<P: Pieces> Pieces for Skip<P> {
 
     ghost gives = { skip_gives P.Pieces.left P.Iterator.next_gives P.Pieces.gives };
 
-    ghost counts = { λ s. skip_counts P.Pieces.left P.Iterator.remaining s (P.Pieces.counts (skip_source s)) };
+    ghost counts = { λ s.
+        skip_counts P.Pieces.left P.Iterator.remaining s (P.Pieces.counts (skip_source s)) };
 }

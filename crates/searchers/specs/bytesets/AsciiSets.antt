@@ -1,8 +1,8 @@
--- What a set of bytes below 128 shows: its bytes. Assumes nothing.
+-- What a set of bytes below 128 shows. Assumes nothing.
 use Rattle.std.specs.Prelude.{ℕ, Bool}
-use Rattle.searchers.specs.bytesets.ByteSets as sets
+use Rattle.searchers.specs.bytesets.ByteSets.{has_byte}
 use Rattle.searchers.specs.declared.bytesets.asciiset.AsciiSet.{AsciiSet}
 
--- whether it has a byte
-abbrev pub has_byte : AsciiSet → ℕ → Bool
-has_byte set byte = sets.has_byte set.set byte
+-- whether a byte is in the set
+abbrev pub has_ascii : AsciiSet → ℕ → Bool
+has_ascii set b = has_byte set.set b

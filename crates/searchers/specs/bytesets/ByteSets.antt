@@ -1,8 +1,8 @@
--- What a set of bytes shows: its bytes. Assumes nothing.
+-- What a set of bytes shows. Assumes nothing.
 use Rattle.std.specs.Prelude.{ℕ, Bool}
 use Rattle.searchers.specs.bytesets.Sets.{member}
 use Rattle.searchers.specs.declared.bytesets.byteset.ByteSet.{ByteSet}
 
--- whether it has a byte
+-- whether a byte is in the set
 abbrev pub has_byte : ByteSet → ℕ → Bool
-has_byte set byte = member set.has byte
+has_byte set b = member set.has b

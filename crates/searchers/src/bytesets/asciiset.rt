@@ -1,9 +1,11 @@
-// A set of bytes below 128, and the search for them in every kind of text that keeps such bytes apart.
-ghost use Rattle.std.specs.Prelude.{◌≡◌, ℕ, false, MatchResult};
-ghost use Rattle.anystr.specs.Refusals.{code};
+// A set of bytes below 128, and the search for them in texts that keep such bytes apart.
+ghost use Rattle.std.specs.Prelude.{[], IfOk};
 ghost use Rattle.std.specs.List.{concat};
-ghost use Rattle.searchers.specs.bytesets.Sets.{among, member, single, single-lawful, LeastHigh, Ascii, AllLow, AsciiChecked};
-ghost use Rattle.searchers.specs.bytesets.OnText.{low-bounded};
+ghost use Rattle.anystr.specs.Texts.{bytes_of};
+ghost use Rattle.searchers.specs.bytesets.ByteSets.{has_byte};
+ghost use Rattle.searchers.specs.bytesets.OnText.{single_bytes-bounded};
+ghost use Rattle.searchers.specs.bytesets.Sets.{IsSetOf, AllBelow, AllAscii, AsciiChecked};
+ghost use Rattle.searchers.specs.bytesets.Sets.{single_bytes, single_bytes-lawful};
 
 use super::byteset::ByteSet;
 use crate::ascii::{AsciiPattern, AsciiStr, first_ascii_mark, last_ascii_mark};
@@ -14,19 +16,23 @@ use anystr::refusal::Refusal;
 
 const FIRST_NON_ASCII: u8 = 128;
 
-// A set whose bytes are all below 128.
+/// A set of bytes that are all below 128.
 #[derive(Clone, Copy)]
 pub struct AsciiSet {
     set: ByteSet,
-    ghost low: { AllLow set.has },
+    ghost low: { AllBelow (has_byte set) 128 },
 }
 
 impl<'a> TryFrom<&'a [u8]> for AsciiSet {
+    ghost use Rattle.searchers.specs.bytesets.AsciiSets.{has_ascii};
+
     type Error = Refusal;
 
-    ghost try_from_gives = { λ bytes r. MatchResult r (λ s. Ascii bytes.now × ((b : ℕ) → member s.set.has b ≡ among bytes.now b)) (λ e. (n : ℕ) × LeastHigh bytes.now n × (code e ≡ (11, n))) };
+    ghost try_from_gives = { λ bytes r.
+        AsciiChecked bytes.now r × IfOk r (λ set. IsSetOf bytes.now (has_ascii set)) };
 
-    // The set of these bytes; refused where one is not below 128.
+    /// The set of these bytes; refused with 11 and the least byte that is not below 128, where
+    /// there is one.
     fn try_from(bytes: &'a [u8]) -> Result<AsciiSet, Refusal> {
         let set = ByteSet::new(bytes);
         match set.least_from(FIRST_NON_ASCII) {
@@ -37,17 +43,20 @@ impl<'a> TryFrom<&'a [u8]> for AsciiSet {
 }
 
 impl AsciiSet {
-    // Whether all the bytes are below 128.
+    ghost use Rattle.searchers.specs.bytesets.AsciiSets.{has_ascii};
+
+    /// Whether all the bytes are below 128; refused with 11 and the least byte that is not, where
+    /// there is one.
     pub fn check(bytes: &[u8]) -> Result<(), Refusal>
         ensures { AsciiChecked bytes.now result }
     {
         AsciiSet::try_from(bytes).map(|_| ())
     }
 
-    // The set of these bytes; the empty set where `check` refuses.
+    /// The set of these bytes; the empty set where `check` refuses.
     pub fn new(bytes: &[u8]) -> AsciiSet
-        ensures given { Ascii bytes.now → (b : ℕ) → member result.set.has b ≡ among bytes.now b }
-        ensures refused { (Ascii bytes.now → ⊥) → (b : ℕ) → member result.set.has b ≡ false }
+        ensures given { AllAscii bytes.now → IsSetOf bytes.now (has_ascii result) }
+        ensures refused { (AllAscii bytes.now → ⊥) → IsSetOf [] (has_ascii result) }
     {
         AsciiSet::try_from(bytes).unwrap_or(AsciiSet {
             set: ByteSet::new(&[]),
@@ -56,9 +65,11 @@ impl AsciiSet {
 }
 
 impl Pattern for AsciiSet {
-    ghost marks = { λ f. single (member f.set.has) };
+    ghost use Rattle.searchers.specs.bytesets.AsciiSets.{has_ascii};
 
-    ghost lawful = { λ f. single-lawful (member f.set.has) };
+    ghost marks = { λ f. single_bytes (has_ascii f) };
+
+    ghost lawful = { λ f. single_bytes-lawful (has_ascii f) };
 
     fn mark_from(&self, bytes: &[u8], start: usize) -> Option<usize> {
         self.set.mark_from(bytes, start)
@@ -70,14 +81,18 @@ impl Pattern for AsciiSet {
 }
 
 impl AsciiPattern for AsciiSet {
-    ghost bounded = { λ f. low-bounded f.set.has f.low };
+    ghost use Rattle.searchers.specs.bytesets.AsciiSets.{has_ascii};
+
+    ghost bounded = { λ f. single_bytes-bounded (has_ascii f) f.low };
 }
 
 // As `LineEnds` has them, in a line each; `first_ascii_mark` says why no impl serves both.
 impl<S: AsciiStr> Searcher<S> for AsciiSet {
-    ghost marks = { λ f es. single (member f.set.has) (concat es) };
+    ghost use Rattle.searchers.specs.bytesets.AsciiSets.{has_ascii};
 
-    ghost lawful = { λ f text. single-lawful (member f.set.has) (concat (S.AnyStr.elements text)) };
+    ghost marks = { λ f es. single_bytes (has_ascii f) (concat es) };
+
+    ghost lawful = { λ f text. single_bytes-lawful (has_ascii f) (bytes_of S.AnyStr text) };
 
     fn find(&self, text: &S, from: usize) -> Option<Mark> {
         first_ascii_mark(self, text, from)

@@ -1,7 +1,9 @@
 // A set of bytes, and the search for its bytes.
-ghost use Rattle.std.specs.Prelude.{◌≡◌, ℕ, ◌<◌, ◌≤◌, true, false, ◌||◌, ◌==◌, MatchOption};
+ghost use Rattle.std.specs.Prelude.{◌≡◌, ℕ, ◌||◌, ◌==◌, MatchOption};
 ghost use Rattle.std.specs.List.{concat};
-ghost use Rattle.searchers.specs.bytesets.Sets.{among, member, single, single-lawful};
+ghost use Rattle.searchers.specs.bytesets.ByteSets.{has_byte};
+ghost use Rattle.searchers.specs.bytesets.Sets.{IsSetOf, AllBelow, LeastFrom};
+ghost use Rattle.searchers.specs.bytesets.Sets.{single_bytes, single_bytes-lawful};
 
 use crate::mark::Mark;
 use crate::scan::{Pattern, first_mark, last_mark};
@@ -9,19 +11,20 @@ use crate::searcher::{ReverseSearcher, Searcher};
 use anystr::anystr::AnyStr;
 use anystr::bytes::Bytes;
 
-// The bytes that there are.
+/// The number of different bytes.
 pub const BYTE_VALUES: usize = 256;
 
-// A set of bytes, as a table of all of them.
+/// A set of bytes.
+// Held as a table of all bytes.
 #[derive(Clone, Copy)]
 pub struct ByteSet {
     has: [bool; BYTE_VALUES],
 }
 
 impl ByteSet {
-    // The set of these bytes.
+    /// The set of these bytes.
     pub fn new(bytes: &[u8]) -> ByteSet
-        ensures { (b : ℕ) → member result.has b ≡ among bytes.now b }
+        ensures { IsSetOf bytes.now (has_byte result) }
     {
         let mut set = ByteSet {
             has: [false; BYTE_VALUES],
@@ -32,32 +35,33 @@ impl ByteSet {
         set
     }
 
-    // Whether the byte is in the set.
+    /// Whether the byte is in the set.
     pub fn contains(&self, byte: u8) -> bool
-        ensures { result ≡ member self.now.has byte }
+        ensures { result ≡ has_byte self.now byte }
     {
         self.has[byte as usize]
     }
 
-    // Adds the byte.
+    /// Adds the byte.
     pub fn insert(&mut self, byte: u8)
-        ensures { (b : ℕ) → member self.new.has b ≡ (member self.old.has b || byte == b) }
+        ensures { (b : ℕ) → has_byte self.new b ≡ (has_byte self.old b || byte == b) }
     {
         self.has[byte as usize] = true;
     }
 
     // The least byte of the set at or above `low`.
     pub(super) fn least_from(&self, low: u8) -> Option<u8>
-        ensures { MatchOption result ((b : ℕ) → low ≤ b → member self.now.has b ≡ false) (λ n. (low ≤ n) × (member self.now.has n ≡ true) × ((b : ℕ) → low ≤ b → b < n → member self.now.has b ≡ false)) }
+        ensures { MatchOption result
+            (AllBelow (has_byte self.now) low) (LeastFrom (has_byte self.now) low) }
     {
         (low..=u8::MAX).find(|byte| self.contains(*byte))
     }
 }
 
 impl Pattern for ByteSet {
-    ghost marks = { λ f. single (member f.has) };
+    ghost marks = { λ f. single_bytes (has_byte f) };
 
-    ghost lawful = { λ f. single-lawful (member f.has) };
+    ghost lawful = { λ f. single_bytes-lawful (has_byte f) };
 
     fn mark_from(&self, bytes: &[u8], start: usize) -> Option<usize> {
         let byte = bytes.get(start)?;
@@ -72,16 +76,19 @@ impl Pattern for ByteSet {
 }
 
 impl<'a> Searcher<Bytes<'a>> for ByteSet {
-    ghost marks = { λ f es. single (member f.has) (concat es) };
+    ghost marks = { λ f es. single_bytes (has_byte f) (concat es) };
 
-    ghost lawful = { λ f text. single-lawful (member f.has) (concat (⟦<Bytes<'a> as AnyStr>⟧.elements text)) };
+    ghost lawful = { λ f text. single_bytes-lawful (has_byte f)
+        (concat (⟦<Bytes<'a> as AnyStr>⟧.elements text)) };
 
+    #[tactic(auto, using(crate::proofs::bytesets::OnBytes::bytes_on))]
     fn find(&self, text: &Bytes<'a>, from: usize) -> Option<Mark> {
         first_mark(self, text.as_bytes(), from)
     }
 }
 
 impl<'a> ReverseSearcher<Bytes<'a>> for ByteSet {
+    #[tactic(auto, using(crate::proofs::bytesets::OnBytes::bytes_on))]
     fn rfind(&self, text: &Bytes<'a>, before: usize) -> Option<Mark> {
         last_mark(self, text.as_bytes(), before)
     }

@@ -13,4 +13,5 @@ below-bound n (negsuc b) some = absurd (false≢true (sym some))
 pub returns-else-bound-lt0 : goal.returns-else-bound-lt0
 returns-else-bound-lt0 c =
     let is = to_z-of_z w64 c.args.bound c.ranges.bound in
-    ap (λ z. nat_lt c.args.made (nat_abs z)) is ∙ below-bound c.args.made c.args.bound (ap (λ z. lt_z z (pos 0)) (sym is) ∙ c.if-bound-lt0.false)
+    ap (λ z. nat_lt c.args.made (nat_abs z)) is
+    ∙ below-bound c.args.made c.args.bound (ap (λ z. lt_z z (pos 0)) (sym is) ∙ c.if-bound-lt0.false)

@@ -10,7 +10,8 @@ use Rattle.cutters.proofs.play.play.Given as goal
 abbrev pub invariant-loop-i : goal.invariant-loop-i
 invariant-loop-i g l = record {
   run : (es : List Event) × Run (opening l.initial.cutter) at_opening es (state l.cutter)
-      × Plays g.S.AnyStr (take l.i l.calls) (take l.i l.answers) (map g.T.AnyStrContainer.contents l.initial.trays) es (map g.T.AnyStrContainer.contents l.trays);
+      × Plays g.S.AnyStr (take l.i l.calls) (take l.i l.answers) (map g.T.AnyStrContainer.contents l.initial.trays) es
+      (map g.T.AnyStrContainer.contents l.trays);
   cut : All (AnswerOn (g.S.AnyStr.elements l.fn.text)) (take l.i l.answers);
   later : drop l.i l.answers ≡ drop l.i l.initial.answers;
   same : SameOpening l.initial.cutter l.cutter;

@@ -7,7 +7,8 @@ use Rattle.searchers.proofs.count.count_marks.Given as goal
 abbrev pub invariant-loop-mark : goal.invariant-loop-mark
 invariant-loop-mark g l =
     let marks = g.F.Searcher.marks l.searcher (g.S.AnyStr.elements l.text) in
-    (l.count ≤ l.from) × (l.from ≤ length (concat (g.S.AnyStr.elements l.text))) × ((n : ℕ) → CutTimes marks l.from n → CutTimes marks 0 (l.count + n))
+    (l.count ≤ l.from) × (l.from ≤ length (concat (g.S.AnyStr.elements l.text)))
+    × ((n : ℕ) → CutTimes marks l.from n → CutTimes marks 0 (l.count + n))
 
 abbrev pub decreases-loop-mark : goal.decreases-loop-mark
 decreases-loop-mark g l = length (concat (g.S.AnyStr.elements l.text)) - l.from

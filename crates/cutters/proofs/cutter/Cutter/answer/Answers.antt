@@ -8,7 +8,8 @@ pub returns-in-Next-clause-step : goal.returns-in-Next-clause-step
 returns-in-Next-clause-step g c = rw c.in-Next.is (_, gave c.next.result, c.next.ensures.step)
 
 pub returns-in-Skip-clause-step : goal.returns-in-Skip-clause-step
-returns-in-Skip-clause-step g c = rw c.in-Skip.is (skip c.in-Skip.n (coded c.skip.result), skipped c.in-Skip.n c.skip.result, c.skip.ensures.step)
+returns-in-Skip-clause-step g c =
+    rw c.in-Skip.is (skip c.in-Skip.n (coded c.skip.result), skipped c.in-Skip.n c.skip.result, c.skip.ensures.step)
 
 pub returns-in-Rest-clause-step : goal.returns-in-Rest-clause-step
 returns-in-Rest-clause-step g c = rw c.in-Rest.is (rest (span c.rest.result), rested c.rest.result, c.rest.ensures.step)

@@ -1,7 +1,6 @@
 use Rattle.std.proofs.Common.{◌≡◌, true, sym, refl, ap, ◌∙◌, arith, w64, SFits, rules}
 use Rattle.std.proofs.lemmas.Int.{to_z-of_z}
 use Rattle.anystr.proofs.Boundaries.{boundary_from, boundary_true}
-use Rattle.searchers.specs.Truth.{truth}
 use Rattle.cuts.specs.Cuts.{fewer}
 use Rattle.cuts.proofs.Found.{none_found, used_up}
 use Rattle.cutters.specs.Calls.{opening}
@@ -15,10 +14,13 @@ returns-then-not-fewer g c =
     let on = opening k in
     let law = g.met.F.Searcher.lawful k.searcher k.text in
     let fits : SFits w64 k.bound = search rules in
-    let used : fewer k.progress.made k.bound ≡ _ = ap (fewer k.progress.made) (sym (to_z-of_z w64 k.bound fits)) ∙ sym c.if-not-fewer.ensures in
+    let used : fewer k.progress.made k.bound ≡ _ =
+    ap (fewer k.progress.made) (sym (to_z-of_z w64 k.bound fits)) ∙ sym c.if-not-fewer.ensures in
     let l = c.last.ensures in
     record {
-      step = rest-step on law k.progress.place k.progress.made k.progress.spent c.if-self.false (used_up on law k.progress.made k.progress.place used) _ _ l.value l.after;
+      step =
+          rest-step on law k.progress.place k.progress.made k.progress.spent c.if-self.false
+          (used_up on law k.progress.made k.progress.place used) _ _ l.value l.after;
       same = l.same;
       cut = l.cut;
     }
@@ -31,7 +33,9 @@ returns-in_default g c =
     let law = g.met.F.Searcher.lawful k.searcher k.text in
     let l = c.last-in_default.ensures in
     record {
-      step = rest-step on law k.progress.place k.progress.made k.progress.spent c.if-self.false (none_found on law k.progress.made k.progress.place c.in_default.ensures.value) _ _ l.value l.after;
+      step =
+          rest-step on law k.progress.place k.progress.made k.progress.spent c.if-self.false
+          (none_found on law k.progress.made k.progress.place c.in_default.ensures.value) _ _ l.value l.after;
       same = l.same;
       cut = l.cut;
     }
@@ -43,10 +47,13 @@ returns g c =
     let on = opening k in
     let law = g.met.F.Searcher.lawful k.searcher k.text in
     let fits : SFits w64 k.bound = search rules in
-    let more : fewer k.progress.made k.bound ≡ true = ap (fewer k.progress.made) (sym (to_z-of_z w64 k.bound fits)) ∙ sym c.if-not-fewer.ensures in
+    let more : fewer k.progress.made k.bound ≡ true =
+    ap (fewer k.progress.made) (sym (to_z-of_z w64 k.bound fits)) ∙ sym c.if-not-fewer.ensures in
     let m = c.in-Some.ensures in
     record {
-      step = cut_step on law k.progress.place k.progress.made k.progress.spent c.if-self.false c.in-Some.mark.start c.in-Some.mark.end (truth _ more) m.value;
+      step =
+          cut_step on law k.progress.place k.progress.made k.progress.spent c.if-self.false c.in-Some.mark.start
+          c.in-Some.mark.end more m.value;
       same = record { text = refl; searcher = refl; bound = refl };
       cut = (boundary_from es k.progress.place k.placed, m.cut.0);
     }

@@ -19,4 +19,7 @@ returns g c =
 pub invariant_of-result : goal.invariant_of-result
 invariant_of-result g c =
     let at = c.from_place.ensures in
-    record { placed = boundary_true (g.S.AnyStr.elements c.args.text) _ (0, λ i. (sym at i).place); behind = λ _. omega (arith, ap (λ (s : State). s.made) at) }
+    record {
+      placed = boundary_true (g.S.AnyStr.elements c.args.text) _ (0, λ i. (sym at i).place);
+      behind = λ _. omega (arith, ap (λ (s : State). s.made) at);
+    }

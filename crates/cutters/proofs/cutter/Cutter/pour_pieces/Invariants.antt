@@ -12,7 +12,8 @@ abbrev pub invariant-loop-piece : goal.invariant-loop-piece
 invariant-loop-piece g l = record {
   poured : Pouring (g.T.AnyStrContainer.contents l.tray)
       (to_pour (opening l.initial.self) (concat (g.S.AnyStr.elements l.to)) (state l.self))
-      (gained (g.T.AnyStrContainer.contents l.initial.tray) (to_pour (opening l.initial.self) (concat (g.S.AnyStr.elements l.to)) (state l.initial.self)));
+      (gained (g.T.AnyStrContainer.contents l.initial.tray)
+      (to_pour (opening l.initial.self) (concat (g.S.AnyStr.elements l.to)) (state l.initial.self)));
   same_loan : g.T.AnyStrContainer.loan l.tray ≡ g.T.AnyStrContainer.loan l.initial.tray;
   made : l.self.progress.made + length (to_cut (opening l.initial.self) (state l.self))
       ≡ l.initial.self.progress.made + length (to_cut (opening l.initial.self) (state l.initial.self));

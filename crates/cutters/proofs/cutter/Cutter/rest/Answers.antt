@@ -8,5 +8,8 @@ returns g c =
     let es = g.S.AnyStr.elements c.args.self.now.text in
     record {
       step = ((λ i. (c.args.self.now.progress.place, c.bytes_len.ensures i)), refl);
-      cut = (boundary_from es c.args.self.now.progress.place c.args.self.now.placed, subst (Boundary es) (sym c.bytes_len.ensures) (end_on es));
+      cut = (
+        boundary_from es c.args.self.now.progress.place c.args.self.now.placed,
+        subst (Boundary es) (sym c.bytes_len.ensures) (end_on es),
+      );
     }

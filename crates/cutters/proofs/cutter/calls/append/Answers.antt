@@ -8,5 +8,6 @@ use Rattle.cutters.proofs.cutter.calls.append.Goals as goal
 pub returns-clause-gained : goal.returns-clause-gained
 returns-clause-gained g c =
     let bytes = c.args.bytes.now in
-    let made : concat (singles c.new.result.bytes.now) ≡ bytes = ap concat (c.new.ensures.given c.requires.few) ∙ concat-singles bytes in
+    let made : concat (singles c.new.result.bytes.now) ≡ bytes =
+    ap concat (c.new.ensures.given c.requires.few) ∙ concat-singles bytes in
     took _ _ _ (coded c.push_str.result) c.requires.fits (rw made at c.push_str.ensures.fills)

@@ -13,8 +13,11 @@ loop-place-preserved g c =
     let i : ℕ = c.loop-place.place-index in
     let piece = c.in-Some.piece in
     let e = g.met.P.Pieces.gives c.loop-place.source (Some piece) c.next.new.self c.in-Some.ensures.steps in
-    let at = comes xs left i (span piece) (sym c.loop-place.invariant.1 ∙ e) in
-    (filled_more xs left i (span piece) c.args.places.now c.loop-place.places c.into.result at c.into.ensures (omega arith) c.loop-place.invariant.0, at.others)
+    let at = comes xs left i (span piece) (sym c.loop-place.invariant.1 ∙ e) in (
+      filled_more xs left i (span piece) c.args.places.now c.loop-place.places c.into.result at c.into.ensures
+          (omega arith) c.loop-place.invariant.0,
+      at.others,
+    )
 
 pub returns-in_default : goal.returns-in_default
 returns-in_default g c =
@@ -24,6 +27,9 @@ returns-in_default g c =
     let gave = g.met.P.Pieces.gives c.loop-place.source None c.next.new.self c.in_default.ensures.steps in
     let none : drop i xs ≡ [] = sym c.loop-place.invariant.1 ∙ gave.0 in
     record {
-      written = rw set-get_or (subst (λ (ps : List Span). Filled ps c.args.places.now c.loop-place.places) (all_taken xs i n (omega arith) none) c.loop-place.invariant.0);
+      written =
+          rw set-get_or
+          (subst (λ (ps : List Span). Filled ps c.args.places.now c.loop-place.places)
+          (all_taken xs i n (omega arith) none) c.loop-place.invariant.0);
       left = gave.1 ∙ sym (none_after xs i n (omega arith) none);
     }

@@ -13,4 +13,5 @@ returns c p within low =
     let w : p < length bs = omega (arith, ap length e) in
     let s : get_or bs p 0 < 128 = omega (arith, ap (λ xs. get_or xs p 0) e) in
     let next : p + 1 ≡ suc p = omega arith in
-    (boundary bs p u (IsCharBoundary-before_ascii bs p w s), boundary bs (suc p) u (subst (words.IsCharBoundary bs) next (IsCharBoundary-after_ascii bs p u w s)))
+    let after = subst (words.IsCharBoundary bs) next (IsCharBoundary-after_ascii bs p u w s) in
+    (boundary bs p u (IsCharBoundary-before_ascii bs p w s), boundary bs (suc p) u after)

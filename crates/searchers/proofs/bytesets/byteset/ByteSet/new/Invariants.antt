@@ -1,6 +1,8 @@
-use Rattle.std.proofs.Common.{◌≡◌, ℕ, take}
-use Rattle.searchers.specs.bytesets.Sets.{among, member}
+use Rattle.std.proofs.Common.{take}
+use Rattle.searchers.specs.bytesets.ByteSets.{has_byte}
+use Rattle.searchers.specs.bytesets.Sets.{IsSetOf}
 use Rattle.searchers.proofs.bytesets.byteset.ByteSet.new.Given as goal
 
+-- the set has the bytes that were gone over
 abbrev pub invariant-loop-b : goal.invariant-loop-b
-invariant-loop-b l = (b : ℕ) → member l.set.has b ≡ among (take l.b-index l.bytes) b
+invariant-loop-b l = IsSetOf (take l.b-index l.bytes) (has_byte l.set)

@@ -1,6 +1,5 @@
 use Rattle.std.proofs.Common.{◌≡◌, suc, ◌+◌, ◌-◌, ◌≤◌, Some, true, sym, refl, ◌∙◌, add-one, ⊎_elim, arith}
 use Rattle.anystr.proofs.Boundaries.{boundary_from, boundary_true, offset-within}
-use Rattle.searchers.specs.Truth.{truth}
 use Rattle.cuts.specs.Cuts.{size, at}
 use Rattle.cuts.proofs.Back.{back_used, back_none, back_cut}
 use Rattle.cutters.specs.Calls.{span}
@@ -61,7 +60,7 @@ returns-clause-steps g c =
     let one : k.progress.made + 1 ≡ suc k.progress.made = add-one k.progress.made in
     let found = c.in-Some.ensures.value in
     let p = k.progress in
-    let cut = back_cut on law p.place p.made p.spent c.if-self.false within _ _ (truth _ found.0) found.1 in
+    let cut = back_cut on law p.place p.made p.spent c.if-self.false within _ _ found.0 found.1 in
     record {
       step = (λ i. (Some (mark.end, p.place), at (size on - mark.start) (one i) (c.if-self.false i))) ∙ sym cut;
       same = record { text = refl; searcher = refl; bound = refl };

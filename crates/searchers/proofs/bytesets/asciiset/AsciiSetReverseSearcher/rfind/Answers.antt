@@ -1,4 +1,0 @@
-use Rattle.searchers.proofs.bytesets.asciiset.AsciiSetReverseSearcher.rfind.Goals as goal
-
-pub returns-clause-value : goal.returns-clause-value
-returns-clause-value g c = c.last_ascii_mark.ensures.value
