@@ -11,16 +11,15 @@ use Rattle.cutters.specs.declared.cutter.Cutter.{Cutter}
 use Rattle.cutters.specs.declared.piece.Piece.{Piece}
 use Rattle.callers.specs.Rests.{RestsAfterTwo}
 
+-- what the law says of them is told of what the cutter was opened on
 pub rests_after_two : {S F C : Type 0} {s : AnyStr.Ghosts S C} {f : Searcher.Ghosts F S C} (on : Opening)
     (c d e : Cutter S F C s f) (p q : Option Piece) (r : Piece)
     → opening c ≡ on → state c ≡ at_opening → RunsLaw (opening c) → NextStep c p d → NextStep d q e → Rests e r
     → RestsAfterTwo on r
 rests_after_two on c d e p q r is start law one two rest =
     let after_one = same_opening c d one.same in
-    let first : Step (opening c) at_opening (next (option_map span p)) (state d) =
-    subst (λ (s : State). Step (opening c) s (next (option_map span p)) (state d)) start one.step in
-    let second : Step (opening c) (state d) (next (option_map span q)) (state e) =
-    subst (λ (o : Opening). Step o (state d) (next (option_map span q)) (state e)) after_one two.step in
+    let first = subst (λ (s : State). Step (opening c) s (next (option_map span p)) (state d)) start one.step in
+    let second = subst (λ (o : Opening). Step o (state d) (next (option_map span q)) (state e)) after_one two.step in
     let whole : RestsAfterTwo (opening c) r = record {
       first = option_map span p;
       second = option_map span q;

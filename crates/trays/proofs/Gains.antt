@@ -8,8 +8,8 @@ use Rattle.trays.specs.Trays.{Contents, gained, IsFilled}
 pub gained-append : (tray : Contents) (xs ys : List ℕ) → gained (gained tray xs) ys ≡ gained tray (xs ++ ys)
 gained-append tray xs ys =
     let held = append_assoc tray.held xs ys in
-    let spare =
-    drop-drop (length ys) (length xs) tray.spare ∙ ap (λ n. drop n tray.spare) (sym (length-append xs ys)) in
+    let both = ap (λ n. drop n tray.spare) (sym (length-append xs ys)) in
+    let spare = drop-drop (length ys) (length xs) tray.spare ∙ both in
     λ i. record { held = held i; spare = spare i }
 
 -- bytes that fit are taken
