@@ -1,5 +1,6 @@
 -- Where a needle stands, by the definitions and by what a search of a part answers.
-use Rattle.std.proofs.Common.{◌≡◌, ℕ, suc, ◌+◌, ◌-◌, ◌<◌, ◌≤◌, Bool, true, false, cond, IsTrue, leb, List, [], ◌∷◌, length}
+use Rattle.std.proofs.Common.{◌≡◌, ℕ, suc, ◌+◌, ◌-◌, ◌<◌, ◌≤◌, Bool, true, false, cond, IsTrue, leb, List, [], ◌∷◌}
+use Rattle.std.proofs.Common.{length}
 use Rattle.std.proofs.Common.{take, drop, Some, None, Option, sym, refl, ap, ◌∙◌, ⊎_elim, le_refl, arith, length-take}
 use Rattle.std.specs.Option.{option_or}
 use Rattle.std.proofs.lemmas.List.{take-take, nil_from_length}
@@ -133,7 +134,8 @@ module _ (bs n : List ℕ) (b : ℕ) (within : b ≤ length bs) where
   -- what a search of the part answers
   module _ (a : ℕ) (le : a ≤ b) where
     -- a place is a mark of the part
-    marked : (p : ℕ) → 0 < length n → Stands bs n a b p → IsTrue (occurrence n (part bs (a, b)) (p - a) ((p - a) + length n))
+    marked : (p : ℕ) → 0 < length n → Stands bs n a b p
+        → IsTrue (occurrence n (part bs (a, b)) (p - a) ((p - a) + length n))
     marked p some s =
         let back : a + (p - a) ≡ p = omega (arith, s.after) in
         let rest = drop-part bs a b (p - a) (omega (arith, s.after, s.ahead)) ∙ ap (λ q. part bs (q, b)) back in
