@@ -51,7 +51,7 @@ impl<'a> Bytes<'a> {
 }
 
 impl<'a> AnyStr for Bytes<'a> {
-    ghost use Rattle.anystr.specs.Bytes.{byte_list};
+    ghost use Rattle.anystr.specs.Bytes.{byte_list, byte_list-few};
     ghost use Rattle.anystr.specs.OfBytes.{filled as filled_bytes, few as few_bytes};
     ghost use Rattle.anystr.specs.OfBytes.{whole as whole_bytes};
 
@@ -63,7 +63,7 @@ impl<'a> AnyStr for Bytes<'a> {
 
     ghost filled = { λ s. filled_bytes (byte_list s) };
 
-    ghost few = { λ s. few_bytes (byte_list s) s.few };
+    ghost few = { λ s. few_bytes (byte_list s) (byte_list-few s) };
 
     ghost whole = { λ s t. whole_bytes (byte_list s) (byte_list t) };
 

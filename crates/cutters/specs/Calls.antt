@@ -34,9 +34,16 @@ OnText es None = Unit {0}
 OnText es (Some p) = Boundary es p.start × Boundary es p.end
 
 module _ {S F C : Type 0} {s : AnyStr.Ghosts S C} {f : Searcher.Ghosts F S C} where
-  -- what a cutter was opened on
+  -- a cutter's text, and its searcher
+  abbrev pub text_of : Cutter S F C s f → S
+  text_of c = c.text
+
+  abbrev pub searcher_of : Cutter S F C s f → F
+  searcher_of c = c.searcher
+
+  -- what it was opened on
   abbrev pub opening : Cutter S F C s f → Opening
-  opening c = opening_of s f c.text c.searcher c.bound
+  opening c = opening_of s f (text_of c) (searcher_of c) c.bound
 
   -- its place, the cuts that it has made, and whether it is spent
   abbrev pub state : Cutter S F C s f → State
@@ -60,7 +67,7 @@ module _ {S F C : Type 0} {s : AnyStr.Ghosts S C} {f : Searcher.Ghosts F S C} wh
 
   -- a piece lies on boundaries of its text
   abbrev pub PieceOn : Cutter S F C s f → Option Piece → Type 0
-  PieceOn c p = OnText (s.elements c.text) p
+  PieceOn c p = OnText (s.elements (text_of c)) p
 
   -- the bytes of its rest, with those of `to` in place of each mark that is still to be cut
   abbrev pub poured_by : Cutter S F C s f → S → List ℕ

@@ -66,7 +66,7 @@ impl<'a> AnyStr for Text<'a> {
     ghost use Rattle.std.proofs.Math.Utf8.{encode};
     ghost use Rattle.text.specs.OfText.{filled as filled_text, few as few_text};
     ghost use Rattle.text.specs.OfText.{whole as whole_text};
-    ghost use Rattle.text.specs.Text.{text_bytes};
+    ghost use Rattle.text.specs.Text.{text_bytes, text_bytes-formed, text_bytes-few};
 
     type Char = char;
 
@@ -76,9 +76,10 @@ impl<'a> AnyStr for Text<'a> {
 
     ghost filled = { λ s. filled_text (text_bytes s) };
 
-    ghost few = { λ s. few_text (text_bytes s) s.formed s.few };
+    ghost few = { λ s. few_text (text_bytes s) (text_bytes-formed s) (text_bytes-few s) };
 
-    ghost whole = { λ s t. whole_text (text_bytes s) (text_bytes t) s.formed t.formed };
+    ghost whole = { λ s t. whole_text (text_bytes s) (text_bytes t)
+        (text_bytes-formed s) (text_bytes-formed t) };
 
     fn as_bytes(&self) -> &[u8] {
         self.text.as_bytes()

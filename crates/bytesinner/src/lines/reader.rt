@@ -2,6 +2,7 @@
 ghost use Rattle.std.specs.Prelude.{◌≡◌};
 ghost use Rattle.std.specs.Iterator.{item_count};
 ghost use Rattle.cuts.specs.Cuts.{at_opening};
+ghost use Rattle.cutters.specs.Calls.{text_of, searcher_of};
 ghost use Rattle.bytesinner.specs.lines.Reader.{state, left_lines, IsOn, LineStep};
 ghost use Rattle.bytesinner.specs.lines.Yields.{next-yields, counts_down};
 
@@ -65,8 +66,8 @@ impl<S: AnyStr, F: Searcher<S> + Drop> Pieces for Lines<S, F> {
 
     ghost asked = { λ _. tt };
 
-    ghost gives = { λ l. next-yields l (F.lawful l.cutter.searcher l.cutter.text) };
+    ghost gives = { λ l. next-yields l (F.lawful (searcher_of l.cutter) (text_of l.cutter)) };
 
-    ghost counts = { λ l. counts_down l (F.lawful l.cutter.searcher l.cutter.text)
-        (S.few l.cutter.text) };
+    ghost counts = { λ l. counts_down l (F.lawful (searcher_of l.cutter) (text_of l.cutter))
+        (S.few (text_of l.cutter)) };
 }
