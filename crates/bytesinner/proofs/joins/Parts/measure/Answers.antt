@@ -37,9 +37,8 @@ overflow_add-sum g c =
     let i = c.loop-index.index-counter in
     let cut = passed _ _ c.check_bytes.result c.in_ok-map_err.ensures.variant c.check_bytes.ensures in
     let more = bare_more (s.elements parts.text) parts.places.now i (omega arith) cut in
-    let few = parts.few in
-    let fits =
-    join_fits (bytes_of s parts.sep) (bytes_of s parts.text) parts.places.now (s.few parts.sep) (s.few parts.text) few in
+    let short = s.few parts.sep in
+    let fits = join_fits (bytes_of s parts.sep) (bytes_of s parts.text) _ short (s.few parts.text) parts.few in
     omega (arith, c.loop-index.invariant.counted, more, fits)
 
 pub loop-index-preserved : goal.loop-index-preserved
