@@ -6,6 +6,7 @@ use cutters::bound::UNBOUNDED;
 use cutters::piece::Piece;
 use cutters::play::{Answer, Call, play};
 use searchers::substring::Substring;
+use std::test::Fail;
 use trays::anytray::AnyTray;
 use trays::buffer::Buffer;
 use trays::container::AnyStrContainer;
@@ -64,7 +65,7 @@ fn too_few_entries(rt: HostRuntime) {
 // A pour into each of several trays: one over 2 bytes that are lent, which has too few free, one
 // that the list has not, and a label.
 #[test]
-fn several_trays(rt: HostRuntime) {
+fn several_trays(rt: HostRuntime) -> Result<(), Fail> {
     let mut lent = *b"zz";
     let to = Bytes::new(b"; ");
     let calls = [
@@ -73,16 +74,15 @@ fn several_trays(rt: HostRuntime) {
         Call::Pour { to, tray: 1 },
     ];
     let mut answers = [UNWRITTEN; 3];
-    let mut trays = [
-        AnyTray::Lent(Buffer::new(&mut lent)),
-        AnyTray::Own(Label::new()),
-    ];
+    let mut trays = Vec::new(rt.alloc());
+    trays.push(AnyTray::Lent(Buffer::new(&mut lent)))?;
+    trays.push(AnyTray::Own(Label::new()))?;
     let played = play(
         Bytes::new(b"a,b"),
         Substring::new(Bytes::new(b",")),
         UNBOUNDED,
         &calls,
-        &mut trays,
+        trays.as_mut_slice(),
         &mut answers,
     );
     assert_eq!(rt; code(played), Ok(()));
@@ -95,4 +95,5 @@ fn several_trays(rt: HostRuntime) {
         ]
     );
     assert_eq!(rt; (trays[0].free(), trays[1].free()), (2, 76));
+    Ok(())
 }
