@@ -92,12 +92,12 @@ pub record Given (m n : ℕ) (list : List Place) : Type 0 where
   pub fits : m ≤ length list
 
 -- a call that passes gives it
-pub given : {m n : ℕ} (list : List Place)
+given : {m n : ℕ} (list : List Place)
     → ◌≡◌ {A = Result ℕ (ℕ × ℕ)} (Ok n) (if nat_le m (length list) then Ok m else Err (7, m)) → Given m n list
 given list is = record { is = grind arith; fits = grind arith }
 
 -- what was written into the front of a list was written into the list
-pub filled-front : {xs ys : List Span} {m n : ℕ} {list part : List Place} → Given m n list → xs ≡ ys
+filled-front : {xs ys : List Span} {m n : ℕ} {list part : List Place} → Given m n list → xs ≡ ys
     → length part ≡ length (take n list) → Filled (take (length (take n list)) xs) (take n list) part
     → Filled (take n ys) list (part ++ drop n list)
 filled-front {xs} {ys} {m} {n} {list} {part} room same l f =
@@ -113,6 +113,21 @@ filled-front {xs} {ys} {m} {n} {list} {part} room same l f =
       others = others ∙ ap (λ (ys : List Place). ys ++ drop n list) f.others ∙ sym front ∙ parted;
     } in
     subst (λ (qs : List Span). Filled qs list (part ++ drop n list)) (λ i. take (t i) (same i)) whole
+
+-- what both calls have done before a place is widened: the runs are written that are wanted, in the room that was given
+pub record Begun (rs : List Span) (bound : ℤ) (total a m n : ℕ) (ys : List Span) (list list' : List Place) : Type 0 where
+  pub shares : Wanted rs bound total a m
+  pub room : Given m n list
+  pub filled : Filled (take n ys) list list'
+
+pub begun : {rs xs ys : List Span} {bound : ℤ} {total a m n : ℕ} {list part : List Place} → total ≡ length rs
+    → SFits w64 bound → a ≡ lone_count total (to_z w64 (of_z w64 bound)) → m ≡ min total (a + 1)
+    → ◌≡◌ {A = Result ℕ (ℕ × ℕ)} (Ok n) (if nat_le m (length list) then Ok m else Err (7, m))
+    → xs ≡ ys → length part ≡ length (take n list) → Filled (take (length (take n list)) xs) (take n list) part
+    → Begun rs bound total a m n ys list (part ++ drop n list)
+begun {list = list} t fits alone places is same l f =
+    let room = given list is in
+    record { shares = wanted t fits alone places; room = room; filled = filled-front room same l f }
 
 module _ {rs : List Span} {bound : ℤ} {total a m : ℕ} (w : Wanted rs bound total a m) where
   stay : lone_count (length rs) bound ≡ a
