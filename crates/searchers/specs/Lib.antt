@@ -1,4 +1,6 @@
+pub mod Lanes
 pub mod Marks
+pub mod Seen
 pub mod Ascii
 pub mod substring
 pub mod bytesets

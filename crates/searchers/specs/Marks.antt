@@ -69,6 +69,10 @@ abbrev pub CutTimes : Marks → (from n : ℕ) → Type 0
 CutTimes marks from zero = NoneFrom marks from
 CutTimes marks from (suc n) = (a e : ℕ) × Least marks from a e × CutTimes marks e n
 
+-- all marks are so many bytes long
+abbrev pub AllOfLength : ℕ → Marks → Type 0
+AllOfLength len marks = (a e : ℕ) → IsTrue (marks a e) → e ≡ a + len
+
 -- marks that are all as long, and lie within the text, keep it
 pub one_length-lawful : (marks : Marks) (len k : ℕ)
     → ((a e : ℕ) → IsTrue (marks a e) → (0 < k) × (e ≡ a + k) × (e ≤ len)) → Lawful marks len

@@ -4,8 +4,10 @@
 pub mod ascii;
 pub mod bytesets;
 pub mod count;
+pub mod lanes;
 pub mod lineends;
 pub mod mark;
 pub mod scan;
 pub mod searcher;
+pub mod seen;
 pub mod substring;

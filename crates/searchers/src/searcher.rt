@@ -1,9 +1,12 @@
 // The interface of the searchers.
-ghost use Rattle.std.specs.Prelude.{ℕ, List, length};
+ghost use Rattle.std.specs.Prelude.{ℕ, List, length, IfSome};
 ghost use Rattle.anystr.specs.Texts.{bytes_of};
-ghost use Rattle.searchers.specs.Marks.{Marks, Lawful, Finds, FindsBack, OnBoundaries};
+ghost use Rattle.searchers.specs.Marks.{Marks, Lawful, CutTimes, Finds, FindsBack, OnBoundaries};
+ghost use Rattle.searchers.specs.Marks.{AllOfLength};
+ghost use Rattle.searchers.specs.Seen.{IsSeenOf, Resumes};
 
 use super::mark::Mark;
+use super::seen::Seen;
 use anystr::anystr::AnyStr;
 
 /// What looks for marks in texts of a kind: an implementer says what its marks are, and finds the
@@ -17,6 +20,39 @@ pub trait Searcher<S: AnyStr> {
     fn find(&self, text: &S, from: usize) -> Option<Mark>
         ensures value { Finds (marks self.now (S.elements text.now)) from result }
         ensures cut { OnBoundaries (S.elements text.now) result };
+
+    /// What `find` gives, where `seen` is what the searcher has seen of the same text, or nothing:
+    /// it goes on from there.
+    fn resume(&self, text: &S, from: usize, seen: &mut Seen) -> Option<Mark>
+        ensures { IsSeenOf (marks self.now (S.elements text.now)) seen.old
+            → Resumes (S.elements text.now) (marks self.now (S.elements text.now)) from result
+                seen.new }
+    {
+        let _ = seen;
+        self.find(text, from)
+    }
+
+    /// The number of marks that are cut from the offset `from` on, without overlap.
+    fn count_cuts(&self, text: &S, from: usize) -> usize
+        ensures { CutTimes (marks self.now (S.elements text.now)) from result }
+    {
+        // not `successors(..).count()`: the library knows no end of its items
+        let mut count = 0;
+        let mut place = from;
+        let mut seen = Seen::nothing();
+        while let Some(mark) = self.resume(text, place, &mut seen) {
+            count += 1;
+            place = mark.end;
+        }
+        count
+    }
+
+    /// The length of every mark in bytes, where all marks have the same.
+    fn mark_len(&self) -> Option<usize>
+        ensures { IfSome result (λ len. (es : List (List ℕ)) → AllOfLength len (marks self.now es)) }
+    {
+        None
+    }
 
     // in each text a mark has a start below its end; no two share a start, and no two share an end
     ghost lawful: { (f : Self) (text : S)

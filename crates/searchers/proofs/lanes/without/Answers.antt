@@ -1,0 +1,19 @@
+use Rattle.std.proofs.Common.{◌≡◌, suc, ◌-◌, ◌*◌, ◌%◌, ◌^◌, ◌<◌, sym, ap, subst, ◌∙◌, arith, w32, bit_and}
+use Rattle.std.proofs.lemmas.Nat.Bits.{bit_at_clear_other, and_pow}
+use Rattle.std.proofs.lemmas.Nat.{and-not, and_comm}
+use Rattle.std.proofs.Common.{pow_pos, pow_mono}
+use Rattle.std.proofs.Math.Nat.{two-pow-succ}
+use Rattle.searchers.proofs.lanes.without.Goals as goal
+
+pub returns-clause-kept : goal.returns-clause-kept
+returns-clause-kept c k l apart = bit_at_clear_other w32 c.args.bits c.args.bit c.requires.bound k l apart
+
+pub returns-clause-smaller : goal.returns-clause-smaller
+returns-clause-smaller c =
+    let m = c.args.bits in
+    let k = c.args.bit in
+    let small : 2 ^ k < 2 ^ 32 = omega (arith, two-pow-succ k, pow_pos k, pow_mono {i = suc k} {j = 32} (omega arith)) in
+    let one : 1 * 2 ^ k % 2 ^ 32 ≡ 2 ^ k = omega arith in
+    let parts = and-not 32 (2 ^ k) m small c.ranges.bits.fits in
+    let there : bit_and (2 ^ k) m ≡ 1 * 2 ^ k = and_comm _ _ ∙ and_pow m k ∙ ap (λ x. x * 2 ^ k) c.requires.set in
+    subst (λ x. bit_and m (2 ^ 32 - 1 - x) < m) (sym one) (omega (arith, and_comm m (2 ^ 32 - 1 - 2 ^ k), pow_pos k))

@@ -1,0 +1,8 @@
+-- Offsets that are looked at side by side, as the bits of a number. Assumes nothing.
+use Rattle.std.specs.Prelude.{◌≡◌, ℕ, ◌+◌, ◌<◌, Bool, true, List, length, slice_index}
+use Rattle.std.specs.Int.{bit_at}
+
+-- bit k is set where a byte of the set stands at `at + k`, and maybe elsewhere
+abbrev pub Places : (ℕ → Bool) → List ℕ → (at bits : ℕ) → Type 0
+Places set bs at bits =
+    (k : ℕ) → k < 32 → at + k < length bs → set (slice_index bs (at + k)) ≡ true → bit_at bits k ≡ 1
