@@ -1,2 +1,4 @@
+pub mod Far
 pub mod Needles
 pub mod OnText
+pub mod Times

@@ -1,7 +1,7 @@
--- What a search has seen of a text. Assumes nothing.
-use Rattle.std.specs.Prelude.{◌≡◌, ℕ, ◌+◌, ◌-◌, ◌<◌, ◌≤◌, IsTrue, List, Option}
+-- What a search sees of a text, and what it finds by that. Assumes nothing.
+use Rattle.std.specs.Prelude.{◌≡◌, ℕ, ◌+◌, ◌-◌, ◌<◌, ◌≤◌, IsTrue, List, None, Some, Option}
 use Rattle.std.specs.Int.{bit_at}
-use Rattle.searchers.specs.Marks.{Marks, Finds, OnBoundaries}
+use Rattle.searchers.specs.Marks.{Marks, Least, Greatest, Finds, OnBoundaries}
 use Rattle.searchers.specs.declared.mark.Mark.{Mark}
 use Rattle.searchers.specs.declared.seen.Seen.{Seen}
 
@@ -9,18 +9,41 @@ use Rattle.searchers.specs.declared.seen.Seen.{Seen}
 abbrev pub MayBegin : Marks → (at end bits : ℕ) → Type 0
 MayBegin marks at end bits = (b e : ℕ) → at ≤ b → b < end → IsTrue (marks b e) → bit_at bits (b - at) ≡ 1
 
--- of the offsets after `at` up to 32 bytes behind it, bit k is set where a mark ends at `at + k + 1`, and maybe
--- elsewhere
+-- the same, and no bit is set of an offset from `end` on
+pub record Begins (marks : Marks) (at end bits : ℕ) : Type 0 where
+  pub may : MayBegin marks at end bits
+  pub below : (k : ℕ) → bit_at bits k ≡ 1 → at + k < end
+
+-- of the 32 offsets after `at`, bit k is set where a mark ends at `at + k + 1`, and maybe elsewhere
 abbrev pub MayEnd : Marks → (at bits : ℕ) → Type 0
 MayEnd marks at bits = (b e : ℕ) → at < e → e ≤ at + 32 → IsTrue (marks b e) → bit_at bits (e - at - 1) ≡ 1
 
+-- no mark begins from `at` up to `end`
+abbrev pub NoneBegins : Marks → (at end : ℕ) → Type 0
+NoneBegins marks at end = (b e : ℕ) → at ≤ b → b < end → IsTrue (marks b e) → ⊥
+
+-- no mark ends after `at` up to `end`
+abbrev pub NoneEnds : Marks → (at end : ℕ) → Type 0
+NoneEnds marks at end = (b e : ℕ) → at < e → e ≤ end → IsTrue (marks b e) → ⊥
+
+-- the first mark from `at` on; none where none begins up to `end`
+abbrev pub FindsWithin : Marks → (at end : ℕ) → Option Mark → Type 0
+FindsWithin marks at end None = NoneBegins marks at end
+FindsWithin marks at end (Some m) = Least marks at m.start m.end
+
+-- the last mark up to `end`; none where none ends after `at`
+abbrev pub FindsBackWithin : Marks → (at end : ℕ) → Option Mark → Type 0
+FindsBackWithin marks at end None = NoneEnds marks at end
+FindsBackWithin marks at end (Some m) = Greatest marks end m.start m.end
+
 -- what was seen is so of these marks
 abbrev pub IsSeenOf : Marks → Seen → Type 0
-IsSeenOf marks seen = MayBegin marks seen.at (seen.at + 32) seen.bits
+IsSeenOf marks seen = Begins marks seen.at (seen.at + 32) seen.bits
 
 -- the bits that were seen, from `from` on
 pub record Rest (seen : Seen) (from bits : ℕ) : Type 0 where
   pub low : seen.at ≤ from
+  pub near : from < seen.at + 32
   pub moved : (k : ℕ) → bit_at bits k ≡ bit_at seen.bits (from - seen.at + k)
 
 -- what a search from `from` on answers and has seen then

@@ -4,9 +4,11 @@ ghost use Rattle.std.specs.List.{concat};
 ghost use Rattle.anystr.specs.Texts.{bytes_of};
 ghost use Rattle.searchers.specs.Ascii.{AsciiApart};
 ghost use Rattle.searchers.specs.Marks.{Bounded, Finds, FindsBack, OnBoundaries};
+ghost use Rattle.searchers.specs.Seen.{IsSeenOf, Resumes};
 
 use super::mark::Mark;
-use super::scan::{Pattern, first_mark, last_mark};
+use super::scan::{Pattern, first_mark, last_mark, next_mark};
+use super::seen::Seen;
 use anystr::anystr::AnyStr;
 use anystr::bytes::Bytes;
 use text::Text;
@@ -47,6 +49,23 @@ pub fn first_ascii_mark<S: AsciiStr, P: AsciiPattern>(
 {
     text.ascii_apart();
     first_mark(pattern, text.as_bytes(), from)
+}
+
+/// What `first_ascii_mark` gives, where `seen` is what was seen of the same text for the pattern, or
+/// nothing: it goes on from there.
+#[inline(always)]
+pub fn next_ascii_mark<S: AsciiStr, P: AsciiPattern>(
+    pattern: &P,
+    text: &S,
+    from: usize,
+    seen: &mut Seen,
+) -> Option<Mark>
+    ensures { IsSeenOf (P.marks pattern.now (bytes_of S.AnyStr text.now)) seen.old
+        → Resumes (S.elements text.now) (P.marks pattern.now (bytes_of S.AnyStr text.now)) from
+        result seen.new }
+{
+    text.ascii_apart();
+    next_mark(pattern, text.as_bytes(), from, seen)
 }
 
 /// The mark with the greatest end at or before the offset `before`; none exactly where there is

@@ -106,6 +106,7 @@ pub(crate) fn without(bits: u32, bit: usize) -> u32
     requires set { bit_at bits bit ≡ 1 }
     ensures smaller { result < bits }
     ensures kept { (k : ℕ) → k < 32 → k ≢ bit → bit_at result k ≡ bit_at bits k }
+    ensures no_more { (k : ℕ) → bit_at result k ≡ 1 → bit_at bits k ≡ 1 }
 {
     bits & !(1 << bit)
 }

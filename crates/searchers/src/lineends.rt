@@ -6,10 +6,12 @@ ghost use Rattle.anystr.specs.Texts.{bytes_of};
 ghost use Rattle.searchers.specs.lineends.Lines.{line_end, line_end-lawful};
 ghost use Rattle.searchers.specs.lineends.OnText.{line-ends_on};
 
-use crate::ascii::{AsciiPattern, AsciiStr, first_ascii_mark, last_ascii_mark};
+use crate::ascii::{AsciiPattern, AsciiStr, first_ascii_mark, last_ascii_mark, next_ascii_mark};
+use crate::lanes::places_among;
 use crate::mark::Mark;
 use crate::scan::Pattern;
 use crate::searcher::{ReverseSearcher, Searcher};
+use crate::seen::Seen;
 
 /// A searcher whose marks are `\r\n`, `\r` that no `\n` follows, and `\n` that no `\r` precedes.
 #[derive(Clone, Copy)]
@@ -29,6 +31,17 @@ impl Pattern for LineEnds {
 
     ghost lawful = { λ _. line_end-lawful };
 
+    #[inline(always)]
+    fn begins(&self, bytes: &[u8], at: usize) -> u32 {
+        places_among(bytes, at, b"\r\n")
+    }
+
+    #[inline(always)]
+    fn ends(&self, bytes: &[u8], at: usize) -> u32 {
+        places_among(bytes, at, b"\r\n")
+    }
+
+    #[inline(always)]
     fn mark_from(&self, bytes: &[u8], start: usize) -> Option<usize> {
         match bytes.get(start)? {
             b'\r' if is_at(bytes, start + 1, b'\n') => Some(start + 2),
@@ -60,6 +73,11 @@ impl<S: AsciiStr> Searcher<S> for LineEnds {
 
     fn find(&self, text: &S, from: usize) -> Option<Mark> {
         first_ascii_mark(self, text, from)
+    }
+
+    #[inline(always)]
+    fn resume(&self, text: &S, from: usize, seen: &mut Seen) -> Option<Mark> {
+        next_ascii_mark(self, text, from, seen)
     }
 }
 

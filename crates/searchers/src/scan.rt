@@ -1,16 +1,48 @@
-// The search for marks, byte by byte: a loop from each end, for every pattern.
-ghost use Rattle.std.specs.Prelude.{ℕ, List, length};
+// The search for marks: a loop from each end, for every pattern.
+ghost use Rattle.std.specs.Prelude.{◌≡◌, ℕ, ◌+◌, ◌<◌, ◌≤◌, List, length};
 ghost use Rattle.searchers.specs.Marks.{Marks, Lawful, Finds, FindsBack, FindsOne};
+ghost use Rattle.searchers.specs.Seen.{IsSeenOf, MayBegin, MayEnd, Begins, NoneBegins, NoneEnds};
+ghost use Rattle.searchers.specs.Seen.{FindsWithin, FindsBackWithin};
 
+use super::lanes::{LANES, highest, lowest, without};
 use super::mark::Mark;
+use super::seen::Seen;
 
-/// What is looked for in bytes, where each mark can be seen from its start and from its end.
+/// What is looked for in bytes: where marks may begin and end, and what stands there.
 pub trait Pattern {
     // the marks in these bytes
     ghost marks: { Self → List ℕ → Marks };
 
     // in all bytes a mark has a start below its end; no two share a start, and no two share an end
     ghost lawful: { (f : Self) (bs : List ℕ) → Lawful (marks f bs) (length bs) };
+
+    /// Where marks may begin among the 32 offsets from `at` on: bit k is set where one begins at
+    /// `at + k`, and maybe elsewhere.
+    fn begins(&self, bytes: &[u8], at: usize) -> u32
+        ensures { MayBegin (marks self.now bytes.now) at (at + 32) result };
+
+    /// Where marks may end among the 32 offsets after `at`: bit k is set where one ends at
+    /// `at + k + 1`, and maybe elsewhere.
+    fn ends(&self, bytes: &[u8], at: usize) -> u32
+        ensures { MayEnd (marks self.now bytes.now) at result };
+
+    /// An offset from `at` on, such that no mark begins from `at` up to it.
+    fn skip(&self, bytes: &[u8], at: usize) -> usize
+        ensures low { at ≤ result }
+        ensures passed { NoneBegins (marks self.now bytes.now) at result }
+    {
+        let _ = bytes;
+        at
+    }
+
+    /// An offset up to `before`, such that no mark ends after it up to `before`.
+    fn skip_back(&self, bytes: &[u8], before: usize) -> usize
+        ensures high { result ≤ before }
+        ensures passed { NoneEnds (marks self.now bytes.now) result before }
+    {
+        let _ = bytes;
+        before
+    }
 
     /// The end of the mark that begins at `start`; none exactly where none begins.
     fn mark_from(&self, bytes: &[u8], start: usize) -> Option<usize>
@@ -21,25 +53,144 @@ pub trait Pattern {
         ensures { FindsOne (λ start. marks self.now bytes.now start end) result };
 }
 
-/// The mark with the least start at or after the offset `from`; none exactly where there is none.
-pub fn first_mark<P: Pattern>(pattern: &P, bytes: &[u8], from: usize) -> Option<Mark>
-    ensures { Finds (P.marks pattern.now bytes.now) from result }
+// The first mark that begins where one may, by the bits of the offsets from `at` on.
+#[inline(always)]
+fn first_of<P: Pattern>(pattern: &P, bytes: &[u8], at: usize, begins: u32) -> Option<Mark>
+    requires { at ≤ length bytes.now + 32 }
+    ensures { (end : ℕ) → Begins (P.marks pattern.now bytes.now) at end begins
+        → FindsWithin (P.marks pattern.now bytes.now) at end result }
 {
-    for start in from..bytes.len() {
+    let mut left = begins;
+    while left != 0 {
+        let bit = lowest(left);
+        let start = at + bit;
         if let Some(end) = pattern.mark_from(bytes, start) {
             return Some(Mark { start, end });
         }
+        left = without(left, bit);
+    }
+    None
+}
+
+// What is seen from an offset on.
+#[inline(always)]
+fn look<P: Pattern>(pattern: &P, bytes: &[u8], at: usize) -> Seen
+    ensures at { result.at ≡ at }
+    ensures seen { IsSeenOf (P.marks pattern.now bytes.now) result }
+{
+    Seen {
+        at,
+        bits: pattern.begins(bytes, at),
+    }
+}
+
+// What is seen next. Where nothing may begin for a while, the pattern skips.
+#[inline(always)]
+fn look_on<P: Pattern>(pattern: &P, bytes: &[u8], seen: Seen) -> Seen
+    requires { seen.at < length bytes.now }
+    ensures low { seen.at + 32 ≤ result.at }
+    ensures passed { NoneBegins (P.marks pattern.now bytes.now) (seen.at + 32) result.at }
+    ensures seen { IsSeenOf (P.marks pattern.now bytes.now) result }
+{
+    let at = seen.at + LANES;
+    let next = look(pattern, bytes, at);
+    if seen.bits != 0 || next.bits != 0 {
+        return next;
+    }
+    look(pattern, bytes, pattern.skip(bytes, at + LANES))
+}
+
+// The bits of the offsets from `from` on, out of what was seen; where it is not there, by a new look.
+#[inline(always)]
+fn bits_from<P: Pattern>(pattern: &P, bytes: &[u8], from: usize, seen: &mut Seen) -> u32
+    ensures low { seen.new.at ≤ from }
+    ensures near { from < seen.new.at + 32 }
+    ensures seen { IsSeenOf (P.marks pattern.now bytes.now) seen.old
+        → IsSeenOf (P.marks pattern.now bytes.now) seen.new
+        × Begins (P.marks pattern.now bytes.now) from (seen.new.at + 32) result }
+{
+    if let Some(bits) = seen.rest(from) {
+        return bits;
+    }
+    *seen = look(pattern, bytes, from);
+    seen.bits
+}
+
+/// The mark with the least start at or after the offset `from`; none exactly where there is none.
+/// So it is where `seen` is what was seen of the same bytes for the pattern; it goes on from there.
+#[inline(always)]
+pub fn next_mark<P: Pattern>(
+    pattern: &P,
+    bytes: &[u8],
+    from: usize,
+    seen: &mut Seen,
+) -> Option<Mark>
+    ensures value { IsSeenOf (P.marks pattern.now bytes.now) seen.old
+        → Finds (P.marks pattern.now bytes.now) from result }
+    ensures seen { IsSeenOf (P.marks pattern.now bytes.now) seen.old
+        → IsSeenOf (P.marks pattern.now bytes.now) seen.new }
+{
+    let mut at = from;
+    let mut left = bits_from(pattern, bytes, from, seen);
+    while seen.at < bytes.len() {
+        if let Some(mark) = first_of(pattern, bytes, at, left) {
+            return Some(mark);
+        }
+        *seen = look_on(pattern, bytes, *seen);
+        at = seen.at;
+        left = seen.bits;
+    }
+    None
+}
+
+/// The mark with the least start at or after the offset `from`; none exactly where there is none.
+#[inline(always)]
+pub fn first_mark<P: Pattern>(pattern: &P, bytes: &[u8], from: usize) -> Option<Mark>
+    ensures { Finds (P.marks pattern.now bytes.now) from result }
+{
+    next_mark(pattern, bytes, from, &mut Seen::nothing())
+}
+
+// The last mark that ends where one may, by the bits of the offsets after `at`.
+#[inline(always)]
+fn last_of<P: Pattern>(pattern: &P, bytes: &[u8], at: usize, ends: u32) -> Option<Mark>
+    requires within { at + 32 ≤ length bytes.now }
+    requires bits { MayEnd (P.marks pattern.now bytes.now) at ends }
+    ensures { FindsBackWithin (P.marks pattern.now bytes.now) at (at + 32) result }
+{
+    let mut left = ends;
+    while left != 0 {
+        let bit = highest(left);
+        let end = at + bit + 1;
+        if let Some(start) = pattern.mark_to(bytes, end) {
+            return Some(Mark { start, end });
+        }
+        left = without(left, bit);
     }
     None
 }
 
 /// The mark with the greatest end at or before the offset `before`; none exactly where there is
 /// none.
-// Not one function with the first: it asks the pattern another question, of other offsets.
+// Not one function with the first: it asks the pattern other questions, of other offsets.
+#[inline(always)]
 pub fn last_mark<P: Pattern>(pattern: &P, bytes: &[u8], before: usize) -> Option<Mark>
     ensures { FindsBack (P.marks pattern.now bytes.now) before result }
 {
-    for end in (1..=before.min(bytes.len())).rev() {
+    let mut to = before.min(bytes.len());
+    while LANES <= to {
+        let at = to - LANES;
+        let ends = pattern.ends(bytes, at);
+        if let Some(mark) = last_of(pattern, bytes, at, ends) {
+            return Some(mark);
+        }
+        to = if ends == 0 {
+            pattern.skip_back(bytes, at)
+        } else {
+            at
+        };
+    }
+    for end in (1..=to).rev() {
         if let Some(start) = pattern.mark_to(bytes, end) {
             return Some(Mark { start, end });
         }

@@ -26,16 +26,29 @@ pub trait Searcher<S: AnyStr> {
     fn resume(&self, text: &S, from: usize, seen: &mut Seen) -> Option<Mark>
         ensures { IsSeenOf (marks self.now (S.elements text.now)) seen.old
             → Resumes (S.elements text.now) (marks self.now (S.elements text.now)) from result
-                seen.new }
+            seen.new }
     {
         let _ = seen;
         self.find(text, from)
+    }
+
+    /// The number of marks that are cut from the offset `from` on, where the searcher can tell it
+    /// without a search for each.
+    fn count_at_once(&self, text: &S, from: usize) -> Option<usize>
+        ensures { IfSome result (CutTimes (marks self.now (S.elements text.now)) from) }
+    {
+        let _ = text;
+        let _ = from;
+        None
     }
 
     /// The number of marks that are cut from the offset `from` on, without overlap.
     fn count_cuts(&self, text: &S, from: usize) -> usize
         ensures { CutTimes (marks self.now (S.elements text.now)) from result }
     {
+        if let Some(count) = self.count_at_once(text, from) {
+            return count;
+        }
         // not `successors(..).count()`: the library knows no end of its items
         let mut count = 0;
         let mut place = from;
@@ -47,10 +60,11 @@ pub trait Searcher<S: AnyStr> {
         count
     }
 
-    /// The length of every mark in bytes, where all marks have the same.
-    fn mark_len(&self) -> Option<usize>
-        ensures { IfSome result (λ len. (es : List (List ℕ)) → AllOfLength len (marks self.now es)) }
+    /// The length of every mark of the text in bytes, where all of them have the same.
+    fn mark_len(&self, text: &S) -> Option<usize>
+        ensures { IfSome result (λ len. AllOfLength len (marks self.now (S.elements text.now))) }
     {
+        let _ = text;
         None
     }
 

@@ -1,17 +1,23 @@
 // The search for a text in another of its kind.
 
-ghost use Rattle.std.specs.Prelude.{◌≡◌, ◌<◌, length};
+ghost use Rattle.std.specs.Prelude.{◌≡◌, ◌↔◌, ◌<◌, IsTrue, [], ◌∷◌, length};
 ghost use Rattle.std.specs.List.{concat};
+ghost use Rattle.anystr.specs.Elements.{Occurs};
 ghost use Rattle.anystr.specs.Refusals.{PassesIf};
 ghost use Rattle.anystr.specs.Texts.{bytes_of};
+ghost use Rattle.searchers.specs.Marks.{CutTimes, Finds, FindsBack};
+ghost use Rattle.searchers.specs.Seen.{IsSeenOf};
 ghost use Rattle.searchers.specs.substring.Occurrences.{occurrence, occurrence-lawful};
 ghost use Rattle.searchers.specs.substring.Substrings.{needle_of, needle_bytes};
 
+use crate::lanes::{LANES, places_among};
 use crate::mark::Mark;
-use crate::scan::{Pattern, first_mark, last_mark};
+use crate::scan::{Pattern, last_mark, next_mark};
 use crate::searcher::{ReverseSearcher, Searcher};
+use crate::seen::Seen;
 use anystr::anystr::AnyStr;
 use anystr::refusal::Refusal;
+use memchr::{memchr_iter, memmem};
 
 /// A searcher whose marks are all occurrences of a nonempty text, overlapping ones too.
 #[derive(Clone, Copy)]
@@ -38,15 +44,26 @@ impl<S: AnyStr> Substring<S> {
     {
         Substring { needle }
     }
+}
 
-    // The needle's bytes, as a pattern.
-    fn pattern(&self) -> Needle<'_>
-        ensures { needle_bytes result ≡ bytes_of S.AnyStr (needle_of self.now) }
-    {
-        Needle {
-            bytes: self.needle.as_bytes(),
+// Where fewer bytes are left, a search of its own for the rest costs more than it spares.
+const FAR: usize = 128;
+
+// Whether the needle stands at `start`.
+// Byte by byte, and not by `==`: a short needle costs no call then.
+#[inline(always)]
+fn stands(needle: &[u8], bytes: &[u8], start: usize) -> bool
+    ensures { IsTrue result ↔ Occurs bytes.now needle.now start }
+{
+    if bytes.len().saturating_sub(start) < needle.len() {
+        return false;
+    }
+    for (i, byte) in needle.iter().enumerate() {
+        if bytes[start + i] != *byte {
+            return false;
         }
     }
+    true
 }
 
 // The bytes of a needle, as a pattern.
@@ -60,23 +77,121 @@ impl<'a> Pattern for Needle<'a> {
 
     ghost lawful = { λ f. occurrence-lawful (needle_bytes f) };
 
-    #[tactic(auto, using(crate::proofs::substring::Needles::needle_steps))]
+    // by the first byte of the needle, and by its last
+    #[inline(always)]
+    fn begins(&self, bytes: &[u8], at: usize) -> u32 {
+        let [first, .., last] = self.bytes else {
+            return places_among(bytes, at, self.bytes);
+        };
+        let end = at.saturating_add(self.bytes.len() - 1);
+        places_among(bytes, at, &[*first]) & places_among(bytes, end, &[*last])
+    }
+
+    #[inline(always)]
+    fn ends(&self, bytes: &[u8], at: usize) -> u32 {
+        let [first, .., last] = self.bytes else {
+            return places_among(bytes, at, self.bytes);
+        };
+        let Some(start) = at.checked_sub(self.bytes.len() - 1) else {
+            return u32::MAX;
+        };
+        places_among(bytes, start, &[*first]) & places_among(bytes, at, &[*last])
+    }
+
+    fn skip(&self, bytes: &[u8], at: usize) -> usize {
+        let Some(rest) = bytes.get(at..) else {
+            return at;
+        };
+        if rest.len() < FAR {
+            return at;
+        }
+        match memmem::find(rest, self.bytes) {
+            Some(start) => at + start,
+            None => bytes.len(),
+        }
+    }
+
+    fn skip_back(&self, bytes: &[u8], before: usize) -> usize {
+        let Some(front) = bytes.get(..before) else {
+            return before;
+        };
+        if front.len() < FAR {
+            return before;
+        }
+        match memmem::rfind(front, self.bytes) {
+            Some(start) => start + self.bytes.len(),
+            None => 0,
+        }
+    }
+
+    #[inline(always)]
     fn mark_from(&self, bytes: &[u8], start: usize) -> Option<usize> {
         if self.bytes.is_empty() {
             return None;
         }
-        let rest = bytes.get(start..)?.strip_prefix(self.bytes)?;
-        Some(bytes.len() - rest.len())
+        if stands(self.bytes, bytes, start) {
+            Some(start + self.bytes.len())
+        } else {
+            None
+        }
     }
 
-    #[tactic(auto, using(crate::proofs::substring::Needles::needle_steps))]
+    #[inline(always)]
     fn mark_to(&self, bytes: &[u8], end: usize) -> Option<usize> {
+        let start = end.checked_sub(self.bytes.len())?;
         if self.bytes.is_empty() {
             return None;
         }
-        let front = bytes.get(..end)?.strip_suffix(self.bytes)?;
-        Some(front.len())
+        if stands(self.bytes, bytes, start) {
+            Some(start)
+        } else {
+            None
+        }
     }
+}
+
+// The first occurrence at or after the offset `from`. A long needle might stand nearly everywhere,
+// so it goes to a search that is linear all the same.
+#[inline(always)]
+fn next_occurrence(needle: &[u8], bytes: &[u8], from: usize, seen: &mut Seen) -> Option<Mark>
+    ensures value { IsSeenOf (occurrence needle.now bytes.now) seen.old
+        → Finds (occurrence needle.now bytes.now) from result }
+    ensures seen { IsSeenOf (occurrence needle.now bytes.now) seen.old
+        → IsSeenOf (occurrence needle.now bytes.now) seen.new }
+{
+    if needle.len() <= LANES {
+        return next_mark(&Needle { bytes: needle }, bytes, from, seen);
+    }
+    let start = from + memmem::find(bytes.get(from..)?, needle)?;
+    Some(Mark {
+        start,
+        end: start + needle.len(),
+    })
+}
+
+// The last occurrence that ends at or before the offset `before`.
+#[inline(always)]
+fn last_occurrence(needle: &[u8], bytes: &[u8], before: usize) -> Option<Mark>
+    ensures { FindsBack (occurrence needle.now bytes.now) before result }
+{
+    if needle.len() <= LANES {
+        return last_mark(&Needle { bytes: needle }, bytes, before);
+    }
+    let start = memmem::rfind(&bytes[..before.min(bytes.len())], needle)?;
+    Some(Mark {
+        start,
+        end: start + needle.len(),
+    })
+}
+
+// How often one byte stands from the offset `from` on: each is cut.
+fn count_byte(byte: u8, bytes: &[u8], from: usize) -> usize
+    ensures { CutTimes (occurrence (byte ∷ []) bytes.now) from result }
+{
+    let Some(rest) = bytes.get(from..) else {
+        return 0;
+    };
+    memchr_iter(byte, rest).count()
 }
 
 impl<S: AnyStr> Searcher<S> for Substring<S> {
@@ -87,13 +202,35 @@ impl<S: AnyStr> Searcher<S> for Substring<S> {
 
     #[tactic(auto, using(crate::proofs::substring::OnText::found_on))]
     fn find(&self, text: &S, from: usize) -> Option<Mark> {
-        first_mark(&self.pattern(), text.as_bytes(), from)
+        next_occurrence(
+            self.needle.as_bytes(),
+            text.as_bytes(),
+            from,
+            &mut Seen::nothing(),
+        )
+    }
+
+    #[inline(always)]
+    fn resume(&self, text: &S, from: usize, seen: &mut Seen) -> Option<Mark> {
+        next_occurrence(self.needle.as_bytes(), text.as_bytes(), from, seen)
+    }
+
+    fn count_at_once(&self, text: &S, from: usize) -> Option<usize> {
+        let [byte] = self.needle.as_bytes() else {
+            return None;
+        };
+        Some(count_byte(*byte, text.as_bytes(), from))
+    }
+
+    fn mark_len(&self, _text: &S) -> Option<usize> {
+        Some(self.needle.bytes_len())
     }
 }
 
 impl<S: AnyStr> ReverseSearcher<S> for Substring<S> {
+    #[inline(always)]
     #[tactic(auto, using(crate::proofs::substring::OnText::found_back_on))]
     fn rfind(&self, text: &S, before: usize) -> Option<Mark> {
-        last_mark(&self.pattern(), text.as_bytes(), before)
+        last_occurrence(self.needle.as_bytes(), text.as_bytes(), before)
     }
 }

@@ -8,10 +8,11 @@ ghost use Rattle.searchers.specs.bytesets.Sets.{IsSetOf, AllBelow, AllAscii, Asc
 ghost use Rattle.searchers.specs.bytesets.Sets.{single_bytes, single_bytes-lawful};
 
 use super::byteset::ByteSet;
-use crate::ascii::{AsciiPattern, AsciiStr, first_ascii_mark, last_ascii_mark};
+use crate::ascii::{AsciiPattern, AsciiStr, first_ascii_mark, last_ascii_mark, next_ascii_mark};
 use crate::mark::Mark;
 use crate::scan::Pattern;
 use crate::searcher::{ReverseSearcher, Searcher};
+use crate::seen::Seen;
 use anystr::refusal::Refusal;
 
 const FIRST_NON_ASCII: u8 = 128;
@@ -71,6 +72,17 @@ impl Pattern for AsciiSet {
 
     ghost lawful = { λ f. single_bytes-lawful (has_ascii f) };
 
+    #[inline(always)]
+    fn begins(&self, bytes: &[u8], at: usize) -> u32 {
+        self.set.begins(bytes, at)
+    }
+
+    #[inline(always)]
+    fn ends(&self, bytes: &[u8], at: usize) -> u32 {
+        self.set.ends(bytes, at)
+    }
+
+    #[inline(always)]
     fn mark_from(&self, bytes: &[u8], start: usize) -> Option<usize> {
         self.set.mark_from(bytes, start)
     }
@@ -96,6 +108,15 @@ impl<S: AsciiStr> Searcher<S> for AsciiSet {
 
     fn find(&self, text: &S, from: usize) -> Option<Mark> {
         first_ascii_mark(self, text, from)
+    }
+
+    #[inline(always)]
+    fn resume(&self, text: &S, from: usize, seen: &mut Seen) -> Option<Mark> {
+        next_ascii_mark(self, text, from, seen)
+    }
+
+    fn mark_len(&self, _text: &S) -> Option<usize> {
+        Some(1)
     }
 }
 

@@ -1,33 +1,46 @@
 // A set of bytes, and the search for its bytes.
-ghost use Rattle.std.specs.Prelude.{◌≡◌, ℕ, ◌||◌, ◌==◌, MatchOption};
+ghost use Rattle.std.specs.Prelude.{◌≡◌, ℕ, ◌≤◌, true, ◌||◌, ◌==◌, take, MatchOption};
 ghost use Rattle.std.specs.List.{concat};
-ghost use Rattle.searchers.specs.bytesets.ByteSets.{has_byte};
-ghost use Rattle.searchers.specs.bytesets.Sets.{IsSetOf, AllBelow, LeastFrom};
+ghost use Rattle.searchers.specs.Lanes.{Places};
+ghost use Rattle.searchers.specs.bytesets.Sets.{among, member, IsSetOf, AllBelow, LeastFrom};
 ghost use Rattle.searchers.specs.bytesets.Sets.{single_bytes, single_bytes-lawful};
 
+use crate::lanes::places_among;
 use crate::mark::Mark;
-use crate::scan::{Pattern, first_mark, last_mark};
+use crate::scan::{Pattern, first_mark, last_mark, next_mark};
 use crate::searcher::{ReverseSearcher, Searcher};
+use crate::seen::Seen;
 use anystr::anystr::AnyStr;
 use anystr::bytes::Bytes;
 
 /// The number of different bytes.
 pub const BYTE_VALUES: usize = 256;
 
+// The most bytes of a set that are compared side by side.
+const FEW: usize = 8;
+
 /// A set of bytes.
-// Held as a table of all bytes.
+// Held as a table of all bytes. Of a set of few they are listed too; where there are more, `len` is
+// above that.
 #[derive(Clone, Copy)]
 pub struct ByteSet {
     has: [bool; BYTE_VALUES],
+    listed: [u8; FEW],
+    len: usize,
+    ghost few: { len ≤ 8 → (b : ℕ) → member has b ≡ true → among (take len listed) b ≡ true },
 }
 
 impl ByteSet {
+    ghost use Rattle.searchers.specs.bytesets.ByteSets.{has_byte};
+
     /// The set of these bytes.
     pub fn new(bytes: &[u8]) -> ByteSet
         ensures { IsSetOf bytes.now (has_byte result) }
     {
         let mut set = ByteSet {
             has: [false; BYTE_VALUES],
+            listed: [0; FEW],
+            len: 0,
         };
         for b in bytes {
             set.insert(*b);
@@ -46,7 +59,27 @@ impl ByteSet {
     pub fn insert(&mut self, byte: u8)
         ensures { (b : ℕ) → has_byte self.new b ≡ (has_byte self.old b || byte == b) }
     {
+        if self.contains(byte) {
+            return;
+        }
+        if self.len < FEW {
+            self.listed[self.len] = byte;
+            self.len += 1;
+        } else {
+            self.len = FEW + 1;
+        }
         self.has[byte as usize] = true;
+    }
+
+    // Where bytes of the set may stand among the 32 from `at` on.
+    #[inline(always)]
+    fn places(&self, bytes: &[u8], at: usize) -> u32
+        ensures { Places (has_byte self.now) bytes.now at result }
+    {
+        if self.len > FEW {
+            return u32::MAX;
+        }
+        places_among(bytes, at, &self.listed[..self.len])
     }
 
     // The least byte of the set at or above `low`.
@@ -59,10 +92,24 @@ impl ByteSet {
 }
 
 impl Pattern for ByteSet {
+    ghost use Rattle.searchers.specs.bytesets.ByteSets.{has_byte};
+
     ghost marks = { λ f. single_bytes (has_byte f) };
 
     ghost lawful = { λ f. single_bytes-lawful (has_byte f) };
 
+    #[inline(always)]
+    fn begins(&self, bytes: &[u8], at: usize) -> u32 {
+        self.places(bytes, at)
+    }
+
+    // each mark is one byte
+    #[inline(always)]
+    fn ends(&self, bytes: &[u8], at: usize) -> u32 {
+        self.places(bytes, at)
+    }
+
+    #[inline(always)]
     fn mark_from(&self, bytes: &[u8], start: usize) -> Option<usize> {
         let byte = bytes.get(start)?;
         self.contains(*byte).then_some(start + 1)
@@ -76,6 +123,8 @@ impl Pattern for ByteSet {
 }
 
 impl<'a> Searcher<Bytes<'a>> for ByteSet {
+    ghost use Rattle.searchers.specs.bytesets.ByteSets.{has_byte};
+
     ghost marks = { λ f es. single_bytes (has_byte f) (concat es) };
 
     ghost lawful = { λ f text. single_bytes-lawful (has_byte f)
@@ -85,9 +134,20 @@ impl<'a> Searcher<Bytes<'a>> for ByteSet {
     fn find(&self, text: &Bytes<'a>, from: usize) -> Option<Mark> {
         first_mark(self, text.as_bytes(), from)
     }
+
+    #[inline(always)]
+    fn resume(&self, text: &Bytes<'a>, from: usize, seen: &mut Seen) -> Option<Mark> {
+        next_mark(self, text.as_bytes(), from, seen)
+    }
+
+    fn mark_len(&self, _text: &Bytes<'a>) -> Option<usize> {
+        Some(1)
+    }
 }
 
 impl<'a> ReverseSearcher<Bytes<'a>> for ByteSet {
+    ghost use Rattle.searchers.specs.bytesets.ByteSets.{has_byte};
+
     #[tactic(auto, using(crate::proofs::bytesets::OnBytes::bytes_on))]
     fn rfind(&self, text: &Bytes<'a>, before: usize) -> Option<Mark> {
         last_mark(self, text.as_bytes(), before)

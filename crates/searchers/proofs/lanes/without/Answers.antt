@@ -1,5 +1,6 @@
 use Rattle.std.proofs.Common.{◌≡◌, suc, ◌-◌, ◌*◌, ◌%◌, ◌^◌, ◌<◌, sym, ap, subst, ◌∙◌, arith, w32, bit_and}
-use Rattle.std.proofs.lemmas.Nat.Bits.{bit_at_clear_other, and_pow}
+use Rattle.std.specs.Int.{bit_not}
+use Rattle.std.proofs.lemmas.Nat.Bits.{bit_at_clear_other, bit_at_and, and_pow}
 use Rattle.std.proofs.lemmas.Nat.{and-not, and_comm}
 use Rattle.std.proofs.Common.{pow_pos, pow_mono}
 use Rattle.std.proofs.Math.Nat.{two-pow-succ}
@@ -7,6 +8,10 @@ use Rattle.searchers.proofs.lanes.without.Goals as goal
 
 pub returns-clause-kept : goal.returns-clause-kept
 returns-clause-kept c k l apart = bit_at_clear_other w32 c.args.bits c.args.bit c.requires.bound k l apart
+
+pub returns-clause-no_more : goal.returns-clause-no_more
+returns-clause-no_more c k h =
+    omega (arith, bit_at_and c.args.bits (bit_not w32 (1 * 2 ^ c.args.bit % 2 ^ 32)) k)
 
 pub returns-clause-smaller : goal.returns-clause-smaller
 returns-clause-smaller c =

@@ -1,10 +1,14 @@
 use Rattle.std.proofs.Common.{arith}
 use Rattle.searchers.proofs.scan.last_mark.Goals as goal
 
-pub loop-end-init : goal.loop-end-init
-loop-end-init g c b d more le m =
-    let within = (g.P.Pattern.lawful c.args.pattern.now c.args.bytes.now).within b d m in
-    omega (arith, c.min-end.ensures)
+pub loop-to-init : goal.loop-to-init
+loop-to-init g c = (
+  omega (arith, c.min-to.ensures),
+  omega (arith, c.min-to.ensures),
+  λ b d more le m.
+      let within = (g.P.Pattern.lawful c.args.pattern.now c.args.bytes.now).within b d m in
+      omega (arith, c.min-to.ensures),
+)
 
 pub returns : goal.returns
 returns g c b d le m =

@@ -10,8 +10,8 @@ loop-mark-init g c =
 pub loop-mark-preserved : goal.loop-mark-preserved
 loop-mark-preserved g c =
     let marks = g.Self.Searcher.marks c.args.self.now (g.S.AnyStr.elements c.args.text.now) in
-    let mark = c.in-Some.mark in
-    let step = c.in-Some.ensures c.loop-mark.invariant.1 in
+    let mark = c.in-Some-resume.mark in
+    let step = c.in-Some-resume.ensures c.loop-mark.invariant.1 in
     let found = step.value in
     let long = (g.met.Self.Searcher.lawful c.args.self.now c.args.text.now).nonempty _ _ found.is in
     let ge = found.after in (
@@ -24,7 +24,7 @@ loop-mark-preserved g c =
 pub loop-mark-smaller : goal.loop-mark-smaller
 loop-mark-smaller g c =
     let law = g.met.Self.Searcher.lawful c.args.self.now c.args.text.now in
-    let found = (c.in-Some.ensures c.loop-mark.invariant.1).value in
+    let found = (c.in-Some-resume.ensures c.loop-mark.invariant.1).value in
     let long = law.nonempty _ _ found.is in
     let within = law.within _ _ found.is in
     let ge = found.after in
@@ -32,10 +32,10 @@ loop-mark-smaller g c =
 
 pub overflow_add-count : goal.overflow_add-count
 overflow_add-count g c =
-    let found = (c.in-Some.ensures c.loop-mark.invariant.1).value in
+    let found = (c.in-Some-resume.ensures c.loop-mark.invariant.1).value in
     let long = (g.met.Self.Searcher.lawful c.args.self.now c.args.text.now).nonempty _ _ found.is in
     let ge = found.after in
     omega arith
 
 pub returns : goal.returns
-returns g c = simp add-zero at (c.loop-mark.invariant.2 0 (c.in_default.ensures c.loop-mark.invariant.1).value)
+returns g c = simp add-zero at (c.loop-mark.invariant.2 0 (c.in_default-resume.ensures c.loop-mark.invariant.1).value)

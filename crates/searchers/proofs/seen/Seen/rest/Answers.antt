@@ -10,5 +10,6 @@ returns c =
     let same : passed ≡ c.args.from - seen.at = omega arith in
     record {
       low = omega arith;
+      near = omega arith;
       moved = λ k. ap (λ n. n % 2) (shr-shr seen.bits passed k) ∙ ap (λ p. bit_at seen.bits (p + k)) same;
     }

@@ -1,0 +1,56 @@
+-- What is found from one offset on, and where no mark begins before it.
+use Rattle.std.proofs.Common.{◌≡◌, ℕ, ◌+◌, ◌-◌, ◌<◌, ◌≤◌, List, Option, Some, None, arith, ⊎_elim, ap, ◌∙◌, sym}
+use Rattle.std.proofs.lemmas.Bool.{cases_lt}
+use Rattle.std.specs.Int.{bit_at}
+use Rattle.std.proofs.lemmas.Nat.Bits.{bit_at_above}
+use Rattle.searchers.specs.declared.mark.Mark.{Mark}
+use Rattle.searchers.specs.declared.seen.Seen.{Seen}
+use Rattle.searchers.specs.Marks.{Marks, Bounded, Finds, OnBoundaries}
+use Rattle.searchers.specs.Seen.{Begins, IsSeenOf, MayBegin, NoneBegins, Rest}
+
+-- what is found of marks that lie on boundaries lies on boundaries
+pub found_on : (es : List (List ℕ)) (marks : Marks) (from : ℕ) (r : Option Mark) → Bounded es marks
+    → Finds marks from r → OnBoundaries es r
+found_on es marks from None on none = tt
+found_on es marks from (Some m) on found = on m.start m.end found.is
+
+-- what a search from a later offset finds, where no mark begins before it
+pub found_later : (marks : Marks) (from at : ℕ) (r : Option Mark) → from ≤ at → NoneBegins marks from at
+    → Finds marks at r → Finds marks from r
+found_later marks from at None le clear none = λ b d ge m.
+    ⊎_elim (λ lt. clear b d ge lt m) (λ past. none b d past m) (cases_lt b at)
+found_later marks from at (Some m) le clear found = record {
+  after = omega (arith, found.after);
+  is = found.is;
+  least = λ b d ge t.
+      ⊎_elim (λ lt. absurd (clear b d ge lt t)) (λ past. found.least b d past t) (cases_lt b at);
+}
+
+-- no mark begins up to an offset and on from there
+pub none_further : (marks : Marks) (from at end : ℕ) → NoneBegins marks from at → NoneBegins marks at end
+    → NoneBegins marks from end
+none_further marks from at end front back b d ge lt m =
+    ⊎_elim (λ before. front b d ge before m) (λ past. back b d past lt m) (cases_lt b at)
+
+-- 32 bits tell of no offset past as many
+pub whole_begins : (marks : Marks) (at bits : ℕ) → bits < 4294967296 → MayBegin marks at (at + 32) bits
+    → Begins marks at (at + 32) bits
+whole_begins marks at bits fits may = record {
+  may = may;
+  below = λ k set.
+      ⊎_elim (λ lt. omega arith) (λ past. absurd (omega (arith, bit_at_above bits 32 k fits past))) (cases_lt k 32);
+}
+
+-- what was seen tells of the offsets that are left from one on
+pub rest_begins : (marks : Marks) (seen : Seen) (from bits : ℕ) → IsSeenOf marks seen → Rest seen from bits
+    → Begins marks from (seen.at + 32) bits
+rest_begins marks seen from bits is rest = record {
+  may = λ b e ge lt m.
+      let low = rest.low in
+      let there : from - seen.at + (b - from) ≡ b - seen.at = omega arith in
+      rest.moved (b - from) ∙ (ap (bit_at seen.bits) there ∙ is.may b e (omega arith) lt m);
+  below = λ k set.
+      let low = rest.low in
+      let under = is.below (from - seen.at + k) (sym (rest.moved k) ∙ set) in
+      omega arith;
+}

@@ -1,0 +1,32 @@
+use Rattle.std.proofs.Common.{◌≡◌, ◌<◌, ◌-◌, None, Some, length, take, arith, subst, sym, ap}
+use Rattle.searchers.specs.Marks.{FindsBack}
+use Rattle.searchers.specs.substring.Occurrences.{occurrence, fits}
+use Rattle.searchers.proofs.substring.Far.{found_back}
+use Rattle.searchers.proofs.substring.last_occurrence.Goals as goal
+
+pub returns-in_err-start : goal.returns-in_err-start
+returns-in_err-start c =
+    let n = c.args.needle.now in
+    let bs = c.args.bytes.now in
+    let end = c.min.result in
+    let least = c.min.ensures in
+    let some : 0 < length n = let long = c.if-needle-le-LANES.false in omega arith in
+    let whole : end ≡ end - 0 = omega arith in
+    let none = found_back n bs some end (take end bs) (ap (λ k. take k bs) whole) None c.in_err-start.ensures in
+    subst (FindsBack (occurrence n bs) c.args.before) (sym c.from_residual.ensures)
+    (λ b e le m. let fit = fits n bs b e m in none b e (omega arith) m)
+
+pub returns : goal.returns
+returns c =
+    let n = c.args.needle.now in
+    let bs = c.args.bytes.now in
+    let end = c.min.result in
+    let least = c.min.ensures in
+    let some : 0 < length n = let long = c.if-needle-le-LANES.false in omega arith in
+    let whole : end ≡ end - 0 = omega arith in
+    let last = found_back n bs some end (take end bs) (ap (λ k. take k bs) whole) (Some c.in_ok-start.start) c.in_ok-start.ensures in
+    record {
+      ahead = omega (arith, last.ahead);
+      is = last.is;
+      greatest = λ b e le m. let fit = fits n bs b e m in last.greatest b e (omega arith) m;
+    }
