@@ -18,6 +18,7 @@ use anystr::anystr::AnyStr;
 use anystr::bytes::Bytes;
 use anystr::refusal::Refusal;
 use searchers::searcher::Searcher;
+use searchers::seen::Seen;
 use trays::container::AnyStrContainer;
 
 // The bytes from `start` to `end`, as far as there are any.
@@ -57,6 +58,7 @@ impl<S: AnyStr, F: Searcher<S>> Cutter<S, F> {
             searcher,
             bound,
             progress: Progress::from_place(0),
+            seen: Seen::nothing(),
         }
     }
 
@@ -102,7 +104,7 @@ impl<S: AnyStr, F: Searcher<S>> Cutter<S, F> {
         }
         let text = self.text;
         let start = self.progress.place;
-        let Some(mark) = self.searcher.find(&text, start) else {
+        let Some(mark) = self.searcher.resume(&text, start, &mut self.seen) else {
             return Some(self.last());
         };
         self.progress = Progress {
