@@ -11,6 +11,7 @@ use std::alloc::AllocError;
 
 mod calls;
 pub mod iter;
+mod tally;
 
 /// A text that is cut at the marks of a searcher, in their order, while fewer cuts are made than the bound.
 /// Its place, up to which it has cut, is a boundary of the text, and the rest is the text from there on. A spent cutter

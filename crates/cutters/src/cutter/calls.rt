@@ -134,25 +134,6 @@ impl<S: AnyStr, F: Searcher<S>> Cutter<S, F> {
         Ok(())
     }
 
-    // The bytes that the rest takes with `to` in place of each mark still to be cut; the cutter is as it was.
-    fn measure(&mut self, to: &S) -> u64
-        requires { (state self.old).spent ≡ false }
-        ensures value { result ≡ length (poured_by self.old to.now) }
-        ensures after { state self.new ≡ state self.old }
-        ensures same { SameOpening self.old self.new }
-    {
-        let before = self.progress;
-        let text = self.text;
-        let bytes = text.as_bytes();
-        let mut sum = 0;
-        while let Some(piece) = self.next() {
-            sum += stretch(bytes, piece.start, piece.end).len()
-                + gap_after(self.progress, to).len();
-        }
-        self.progress = before;
-        sum as u64
-    }
-
     // Appends the rest, which fits, to the tray with `to` in place of each mark still to be cut.
     fn pour_pieces<T: AnyStrContainer>(&mut self, to: &S, tray: &mut T)
         requires unspent { (state self.old).spent ≡ false }
