@@ -74,6 +74,7 @@ impl<S: AnyStr, F: Searcher<S>> Cutter<S, F> {
     }
 
     // The whole rest, as the last piece.
+    #[inline(always)]
     fn last(&mut self) -> Piece
         ensures value { span result ≡ ((state self.old).place, size (opening self.old)) }
         ensures after { state self.new ≡ at (size (opening self.old)) (state self.old).made true }
@@ -91,6 +92,7 @@ impl<S: AnyStr, F: Searcher<S>> Cutter<S, F> {
 
     /// The next piece, which ends at the first mark from the place on; the whole rest where there is none or the bound is
     /// used up; none where the cutter is spent.
+    #[inline(always)]
     pub fn next(&mut self) -> Option<Piece>
         ensures step { Nexts self.old result self.new }
         ensures same { SameOpening self.old self.new }
