@@ -1,8 +1,8 @@
 -- The marks that are still to be cut, by what a searcher answers.
 use Rattle.std.proofs.Common.{◌≡◌, ℕ, zero, suc, ◌+◌, ◌<◌, ◌≤◌, Bool, true, false, cond, leb, List, [], ◌∷◌, ◌++◌, ℤ}
-use Rattle.std.proofs.Common.{Some, refl, ap, ◌∙◌, ⊎_elim, arith}
+use Rattle.std.proofs.Common.{Some, length, refl, ap, ◌∙◌, ⊎_elim, arith}
 use Rattle.std.proofs.lemmas.Bool.{cond-false, lt-leb, and_left, and_right, cases_lt}
-use Rattle.searchers.specs.Marks.{Marks, Span, Lawful, Least, NoneFrom}
+use Rattle.searchers.specs.Marks.{Marks, Span, Lawful, Least, NoneFrom, CutTimes}
 use Rattle.cuts.specs.Cuts.{Opening, size, cut_from, mark_at, marks_from, fewer, cuts, at, after_cut, next_of}
 use Rattle.cuts.proofs.Greedy.{Few, greedy_one}
 use Rattle.cuts.proofs.Listed.{greedy_cuts}
@@ -65,3 +65,11 @@ module _ (on : Opening) (law : Lawful on.marks (size on)) (made place : ℕ) whe
   pub next_rest : cut_from on made place ≡ []
       → next_of on (at place made false) ≡ (Some (place, size on), at (size on) made true)
   next_rest none = ap (after_cut (size on) (at place made false)) none
+
+-- without a bound as many marks are cut as a searcher counts
+pub length-cut_from : (on : Opening) → Lawful on.marks (size on) → ((n : ℕ) → Few on.bound n)
+    → (k made place : ℕ) → CutTimes on.marks place k → length (cut_from on made place) ≡ k
+length-cut_from on law few zero made place none = ap length (none_found on law made place none)
+length-cut_from on law few (suc k) made place (a, e, least, rest) =
+    ap length (cut_found on law made place a e (few made) least)
+    ∙ ap suc (length-cut_from on law few k (suc made) e rest)

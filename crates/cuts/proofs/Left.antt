@@ -1,5 +1,5 @@
 -- What one next changes in what is left to cut and to pour.
-use Rattle.std.proofs.Common.{◌≡◌, ℕ, zero, suc, ◌+◌, ◌-◌, ◌<◌, ◌≤◌, Bool, true, false, cond, List, [], ◌∷◌, ◌++◌}
+use Rattle.std.proofs.Common.{◌≡◌, ℕ, zero, suc, ◌+◌, ◌-◌, ◌<◌, ◌≤◌, Bool, true, false, cond, IsTrue, List, [], ◌∷◌, ◌++◌}
 use Rattle.std.proofs.Common.{length, take, drop, Some, sym, refl, ap, ◌∙◌, subst, ⊎_elim, append-nil, arith}
 use mathlib.Core.Bool.{false≢true}
 use Rattle.std.proofs.lemmas.List.{take_rest}
@@ -15,6 +15,7 @@ use Rattle.cuts.proofs.Reach.{none_some}
 
 -- the first of the marks still to be cut, and those after it
 pub record First (on : Opening) (made place : ℕ) (m : Span) (ms : List Span) : Type 0 where
+  pub is : IsTrue (on.marks m.0 m.1)
   pub from : place ≤ m.0
   pub long : m.0 < m.1
   pub within : m.1 ≤ size on
@@ -41,6 +42,7 @@ module _ (on : Opening) (law : Lawful on.marks (size on)) where
       rw e at (greedy_cuts on.bound law made place within) in
       let inside = law.within _ _ g.0.is in
       record {
+        is = g.0.is;
         from = g.0.after;
         long = law.nonempty _ _ g.0.is;
         within = inside;

@@ -2,6 +2,7 @@
 use Rattle.std.specs.Prelude.{ℕ, zero, suc, ◌+◌, ◌-◌, Bool, true, false, if◌then◌else◌, ◌&&◌, nat_le, nat_lt}
 use Rattle.std.specs.Prelude.{List, [], ◌∷◌, ◌++◌, length, take, drop, ℤ, pos, negsuc, Some, None, Ok, Err, Option}
 use Rattle.std.specs.Prelude.{Result}
+use Rattle.std.specs.List.{sum_by}
 use Rattle.anystr.specs.declared.refusal.Refusal.TheVariants.{Spent, TooFew}
 use Rattle.anystr.specs.Refusals.{code}
 use Rattle.searchers.specs.Marks.{Marks, Span}
@@ -40,6 +41,10 @@ between place len (m ∷ ms) = (place, m.0) ∷ between m.1 len ms
 abbrev pub poured : List ℕ → List ℕ → ℕ → List Span → List ℕ
 poured bytes to place [] = drop place bytes
 poured bytes to place (m ∷ ms) = take (m.0 - place) (drop place bytes) ++ (to ++ poured bytes to m.1 ms)
+
+-- the bytes that cuts take together
+abbrev pub cut_bytes : List Span → ℕ
+cut_bytes ms = sum_by (λ m. m.1 - m.0) ms
 
 -- what a cutter was opened on: the marks in the text, its bytes, and the bound of the cuts
 pub record Opening : Type 0 where

@@ -4,3 +4,4 @@ pub mod Yielding
 pub mod Turns
 pub mod Pouring
 pub mod Telling
+pub mod Tallying

@@ -1,15 +1,13 @@
 -- One turn of a pass over the pieces that are poured.
-use Rattle.std.proofs.Common.{◌≡◌, ℕ, ◌-◌, ◌^◌, ◌<◌, ◌≤◌, Bool, true, false, cond, List, [], ◌++◌, length, take, drop}
-use Rattle.std.proofs.Common.{Some, sym, ap, ◌∙◌, arith}
+use Rattle.std.proofs.Common.{◌≡◌, ℕ, ◌-◌, cond, List, [], ◌++◌, length, take, drop}
+use Rattle.std.proofs.Common.{Some, sym, ap, ◌∙◌}
 use Rattle.std.specs.List.{concat}
-use Rattle.anystr.specs.Limits.{most_bytes}
 use Rattle.anystr.specs.declared.anystr.AnyStr
 use Rattle.searchers.specs.Marks.{Span, Lawful}
 use Rattle.searchers.specs.declared.searcher.Searcher
-use Rattle.cuts.specs.Cuts.{Opening, size, State, at}
+use Rattle.cuts.specs.Cuts.{Opening, size, State}
 use Rattle.cuts.specs.Runs.{Step, next}
 use Rattle.cuts.proofs.Left.{to_pour, Gave, gave}
-use Rattle.cuts.proofs.Sizes.{poured_fits}
 use Rattle.cutters.specs.Calls.{opening, state, SameOpening}
 use Rattle.cutters.specs.declared.cutter.Cutter.{Cutter}
 use Rattle.cutters.proofs.Same.{step_on}
@@ -22,13 +20,6 @@ module _ (on : Opening) (law : Lawful on.marks (size on)) (to : List ℕ) where
   turn s t p st bytes piece gap eb ep eg =
       (gave on law s.place s.made s.spent p t st).pour to
       ∙ (λ i. (sym (ep ∙ ap (λ (b : List ℕ). take (p.1 - p.0) (drop p.0 b)) eb) i) ++ (sym eg i ++ to_pour on to t))
-
-  pub to_pour-fits : (s : State) → size on ≤ most_bytes → length to ≤ most_bytes → length (to_pour on to s) < 2 ^ 64
-  to_pour-fits s few short = by s.spent
-    where
-      by : (b : Bool) → length (to_pour on to (at s.place s.made b)) < 2 ^ 64
-      by true = omega arith
-      by false = poured_fits on law to s.made s.place few short
 
 module _
     {S F C : Type 0} {s : AnyStr.Ghosts S C} {f : Searcher.Ghosts F S C} (k here after : Cutter S F C s f) (p : Span)

@@ -1,5 +1,5 @@
 // The bound of the cuts.
-ghost use Rattle.std.specs.Prelude.{◌≡◌};
+ghost use Rattle.std.specs.Prelude.{◌≡◌, ℕ, ◌↔◌, IsTrue};
 ghost use Rattle.cuts.specs.Cuts.{fewer as few_cuts};
 
 /// No bound: any negative number is none, as the methods are passed it.
@@ -10,4 +10,11 @@ pub fn fewer(made: u64, bound: i64) -> bool
     ensures { result ≡ few_cuts made bound }
 {
     bound < 0 || made < bound as u64
+}
+
+/// Whether there is no bound: any number of cuts is fewer.
+pub fn unbounded(bound: i64) -> bool
+    ensures { IsTrue result ↔ ((made : ℕ) → IsTrue (few_cuts made bound)) }
+{
+    bound.is_negative()
 }

@@ -43,6 +43,7 @@ impl<S: AnyStr, F: Searcher<S> + Drop> Iterator for Lines<S, F> {
     ghost remaining = { item_count left_lines };
 
     // With its end a line goes on to where the cutter stands after it.
+    #[inline(always)]
     fn next(&mut self) -> Option<Piece> {
         let rest = self.cutter.rest();
         if rest.start >= rest.end {

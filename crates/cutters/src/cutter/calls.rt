@@ -18,6 +18,7 @@ use anystr::anystr::AnyStr;
 use anystr::bytes::Bytes;
 use anystr::refusal::Refusal;
 use searchers::searcher::Searcher;
+use searchers::seen::Seen;
 use trays::container::AnyStrContainer;
 
 // The bytes from `start` to `end`, as far as there are any.
@@ -57,6 +58,7 @@ impl<S: AnyStr, F: Searcher<S>> Cutter<S, F> {
             searcher,
             bound,
             progress: Progress::from_place(0),
+            seen: Seen::nothing(),
         }
     }
 
@@ -72,6 +74,7 @@ impl<S: AnyStr, F: Searcher<S>> Cutter<S, F> {
     }
 
     // The whole rest, as the last piece.
+    #[inline(always)]
     fn last(&mut self) -> Piece
         ensures value { span result ≡ ((state self.old).place, size (opening self.old)) }
         ensures after { state self.new ≡ at (size (opening self.old)) (state self.old).made true }
@@ -89,6 +92,7 @@ impl<S: AnyStr, F: Searcher<S>> Cutter<S, F> {
 
     /// The next piece, which ends at the first mark from the place on; the whole rest where there is none or the bound is
     /// used up; none where the cutter is spent.
+    #[inline(always)]
     pub fn next(&mut self) -> Option<Piece>
         ensures step { Nexts self.old result self.new }
         ensures same { SameOpening self.old self.new }
@@ -102,7 +106,7 @@ impl<S: AnyStr, F: Searcher<S>> Cutter<S, F> {
         }
         let text = self.text;
         let start = self.progress.place;
-        let Some(mark) = self.searcher.find(&text, start) else {
+        let Some(mark) = self.searcher.resume(&text, start, &mut self.seen) else {
             return Some(self.last());
         };
         self.progress = Progress {
@@ -130,25 +134,6 @@ impl<S: AnyStr, F: Searcher<S>> Cutter<S, F> {
             };
         }
         Ok(())
-    }
-
-    // The bytes that the rest takes with `to` in place of each mark still to be cut; the cutter is as it was.
-    fn measure(&mut self, to: &S) -> u64
-        requires { (state self.old).spent ≡ false }
-        ensures value { result ≡ length (poured_by self.old to.now) }
-        ensures after { state self.new ≡ state self.old }
-        ensures same { SameOpening self.old self.new }
-    {
-        let before = self.progress;
-        let text = self.text;
-        let bytes = text.as_bytes();
-        let mut sum = 0;
-        while let Some(piece) = self.next() {
-            sum += stretch(bytes, piece.start, piece.end).len()
-                + gap_after(self.progress, to).len();
-        }
-        self.progress = before;
-        sum as u64
     }
 
     // Appends the rest, which fits, to the tray with `to` in place of each mark still to be cut.

@@ -50,6 +50,7 @@ impl<S: AnyStr, F: Searcher<S> + Drop> Iterator for PiecesLeft<S, F> {
 
     ghost remaining = { item_count (λ s. left_pieces (cutter_of s)) };
 
+    #[inline(always)]
     fn next(&mut self) -> Option<Piece> {
         self.cutter.next()
     }

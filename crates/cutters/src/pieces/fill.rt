@@ -43,7 +43,7 @@ pub fn fill<P: Pieces>(source: &mut P, places: &mut [Place])
 pub fn list<P: Pieces + Copy>(mut source: P, places: &mut [Place]) -> Result<usize, Refusal>
     ensures { Lists (Ok (P.left source)) places.old places.new result }
 {
-    let n = room(source.count(), places)?;
+    let n = room(source.count_left(), places)?;
     fill(&mut source, places);
     Ok(n)
 }

@@ -1,5 +1,5 @@
 // What gives pieces, and those of a cutter as such.
-ghost use Rattle.std.specs.Prelude.{List, Option};
+ghost use Rattle.std.specs.Prelude.{◌≡◌, List, length, Option};
 ghost use Rattle.std.specs.Iterator.{YieldsFirstBy};
 ghost use Rattle.std.specs.Iterator.Adapters.{skip_source};
 ghost use Rattle.searchers.specs.Marks.{Span};
@@ -22,6 +22,16 @@ pub trait Pieces: Iterator<Item = Piece> {
     // the pieces that are left, in the order in which they come
     ghost left: { Self → List Span };
 
+    /// The number of pieces that are left.
+    // Beside the iterator's `count`, which no source can write anew.
+    fn count_left(self) -> usize
+    where
+        Self: Sized,
+        ensures { result ≡ length (left self) }
+    {
+        self.count()
+    }
+
     // the next piece may always be asked for
     ghost asked: { (s : Self) → Self.can_next s };
 
@@ -35,6 +45,10 @@ pub trait Pieces: Iterator<Item = Piece> {
 
 impl<S: AnyStr, F: Searcher<S> + Drop> Pieces for PiecesLeft<S, F> {
     ghost left = { λ s. left_pieces (cutter_of s) };
+
+    fn count_left(self) -> usize {
+        self.cutter().count()
+    }
 
     ghost asked = { λ _. tt };
 

@@ -32,6 +32,7 @@ impl<S: AnyStr, F: ReverseSearcher<S>> BackCutter<S, F> {
     }
 
     // The mark that is cut next, if one is.
+    #[inline(always)]
     fn next_mark(&self) -> Option<Mark>
         ensures value { CutsNext self.now result }
         ensures cut { OnBoundaries (S.elements self.now.text) result }
@@ -52,6 +53,7 @@ impl<S: AnyStr, F: ReverseSearcher<S> + Drop> Iterator for BackCutter<S, F> {
 
     ghost remaining = { item_count left_pieces };
 
+    #[inline(always)]
     fn next(&mut self) -> Option<Piece> {
         if self.progress.spent {
             return None;

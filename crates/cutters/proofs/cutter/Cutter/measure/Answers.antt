@@ -1,50 +1,33 @@
-use Rattle.std.proofs.Common.{◌≡◌, ◌+◌, ◌++◌, length, ap, arith, length-append}
-use Rattle.std.specs.List.{concat}
-use Rattle.cuts.proofs.Left.{to_pour}
-use Rattle.cutters.specs.Calls.{opening, state, span}
-use Rattle.cutters.proofs.Same.{same_again}
-use Rattle.cutters.proofs.Turns.{gave_on, turned, to_pour-fits}
+use Rattle.std.proofs.Common.{◌-◌, length, ap, arith}
+use Rattle.searchers.specs.Marks.{Span}
+use Rattle.cutters.specs.Calls.{poured_by}
+use Rattle.cutters.proofs.Tallying.{Measured, measured, place-within}
 use Rattle.cutters.proofs.cutter.Cutter.measure.Given as given
 use Rattle.cutters.proofs.cutter.Cutter.measure.Goals as goal
+use Rattle.cutters.proofs.cutter.Cutter.measure.Goals.{After-bytes_len}
 
-longer : (g : given.Over) (c : goal.After-gap_after g)
-    → length (to_pour (opening c.args.self.now) (concat (g.S.AnyStr.elements c.args.to.now)) (state c.loop-piece.self))
-    ≡ length c.stretch.result.now + length c.gap_after.result.now
-    + length (to_pour (opening c.args.self.now) (concat (g.S.AnyStr.elements c.args.to.now)) (state c.next.new.self))
-longer g c =
+pub overflow_sub-result : goal.overflow_sub-result
+overflow_sub-result g c =
+    let rest = c.rest-start.ensures.step.0 in
+    omega (arith, place-within c.args.self.now, ap (λ (p : Span). p.0) rest, ap (λ (p : Span). p.1) rest)
+
+sums : (g : given.Over) (c : After-bytes_len g)
+    → Measured (length (poured_by c.args.self.now c.args.to.now)) (c.rest-start.result.end - c.rest-start.result.start)
+    c.tally-marks.result.marks c.bytes_len.result c.tally-marks.result.bytes
+sums g c =
     let k = c.args.self.now in
-    let here = c.loop-piece.self in
-    let after = c.next.new.self in
-    let to = concat (g.S.AnyStr.elements c.args.to.now) in
-    let piece = c.stretch.result.now in
-    let gap = c.gap_after.result.now in
-    let law = g.met.F.Searcher.lawful k.searcher k.text in
-    let bytes = c.as_bytes-bytes in
-    let parts =
-    turned k here after (span c.in-Some.piece) law c.loop-piece.invariant.same c.in-Some.ensures.step to
-    bytes.result.now piece gap bytes.ensures c.stretch.ensures c.gap_after.ensures in
-    let left = to_pour (opening k) to (state after) in
-    omega (arith, ap length parts, length-append piece (gap ++ left), length-append gap left)
+    let to = c.args.to.now in
+    measured k (g.met.F.Searcher.lawful k.searcher k.text) c.requires (g.S.AnyStr.few k.text) to (g.S.AnyStr.few to) _
+    c.rest-start.ensures.step.0 c.tally-marks.result c.tally-marks.ensures c.bytes_len.result c.bytes_len.ensures
 
-pub overflow_add-sum-in-Some : goal.overflow_add-sum-in-Some
-overflow_add-sum-in-Some g c =
-    let k = c.args.self.now in
-    let on = opening k in
-    let law = g.met.F.Searcher.lawful k.searcher k.text in
-    let to = concat (g.S.AnyStr.elements c.args.to.now) in
-    let fits = to_pour-fits on law to (state k) (g.S.AnyStr.few k.text) (g.S.AnyStr.few c.args.to.now) in
-    omega (arith, longer g c, c.loop-piece.invariant.whole, fits)
+pub overflow_mul-result : goal.overflow_mul-result
+overflow_mul-result g c = omega (arith, (sums g c).copies)
 
-pub loop-piece-smaller : goal.loop-piece-smaller
-loop-piece-smaller g c =
-    let k = c.args.self.now in
-    let law = g.met.F.Searcher.lawful k.searcher k.text in
-    let same = c.loop-piece.invariant.same in
-    omega (arith, (gave_on k c.loop-piece.self c.next.new.self _ law same c.in-Some.ensures.step).left)
+pub overflow_add-result : goal.overflow_add-result
+overflow_add-result g c = omega (arith, (sums g c).copies, (sums g c).few)
 
-pub loop-piece-preserved : goal.loop-piece-preserved
-loop-piece-preserved g c = record {
-  whole = omega (arith, longer g c, c.loop-piece.invariant.whole);
-  same =
-      same_again c.args.self.now c.loop-piece.self c.next.new.self c.loop-piece.invariant.same c.in-Some.ensures.same;
-}
+pub overflow_sub-result-2 : goal.overflow_sub-result-2
+overflow_sub-result-2 g c = omega (arith, (sums g c).sum)
+
+pub returns : goal.returns
+returns g c = omega (arith, (sums g c).sum)

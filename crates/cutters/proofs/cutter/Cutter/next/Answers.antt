@@ -35,8 +35,9 @@ returns-in_default g c =
     record {
       step =
           rest-step on law k.progress.place k.progress.made k.progress.spent c.if-self.false
-          (none_found on law k.progress.made k.progress.place c.in_default.ensures.value) _ _ l.value l.after;
-      same = l.same;
+          (none_found on law k.progress.made k.progress.place (c.in_default.ensures k.looked).value) _ _ l.value
+          l.after;
+      same = record { text = l.same.text; searcher = l.same.searcher; bound = l.same.bound };
       cut = l.cut;
     }
 
@@ -49,7 +50,7 @@ returns g c =
     let fits : SFits w64 k.bound = search rules in
     let more : fewer k.progress.made k.bound ≡ true =
     ap (fewer k.progress.made) (sym (to_z-of_z w64 k.bound fits)) ∙ sym c.if-not-fewer.ensures in
-    let m = c.in-Some.ensures in
+    let m = c.in-Some.ensures k.looked in
     record {
       step =
           cut_step on law k.progress.place k.progress.made k.progress.spent c.if-self.false c.in-Some.mark.start
@@ -61,11 +62,18 @@ returns g c =
 pub invariant_of-self : goal.invariant_of-self
 invariant_of-self g c =
     let k = c.args.self.now in
-    let found = c.in-Some.ensures.value in
+    record { placed = k.placed; behind = k.behind; looked = (c.in_default.ensures k.looked).seen }
+
+pub invariant_of-self-2 : goal.invariant_of-self-2
+invariant_of-self-2 g c =
+    let k = c.args.self.now in
+    let step = c.in-Some.ensures k.looked in
+    let found = step.value in
     let long = (g.met.F.Searcher.lawful k.searcher k.text).nonempty _ _ found.is in
     let from = found.after in
     let behind = k.behind c.if-self.false in
     record {
-      placed = boundary_true (g.S.AnyStr.elements k.text) c.in-Some.mark.end c.in-Some.ensures.cut.1;
+      placed = boundary_true (g.S.AnyStr.elements k.text) c.in-Some.mark.end step.cut.1;
       behind = λ _. omega arith;
+      looked = step.seen;
     }

@@ -22,4 +22,5 @@ invariant_of-result g c =
     record {
       placed = boundary_true (g.S.AnyStr.elements c.args.text) _ (0, λ i. (sym at i).place);
       behind = λ _. omega (arith, ap (λ (s : State). s.made) at);
+      looked = c.nothing.ensures (g.F.Searcher.marks c.args.searcher (g.S.AnyStr.elements c.args.text));
     }
