@@ -57,7 +57,8 @@ impl<S: AnyStr, F: Searcher<S>> Cutter<S, F> {
         requires { (state self.now).spent ≡ false }
         ensures { IsTallyOf (marks_ahead self.now) result }
     {
-        match self.searcher.mark_len() {
+        let text = self.text;
+        match self.searcher.mark_len(&text) {
             None => self.walk(),
             Some(len) => {
                 let marks = self.mark_count();

@@ -12,10 +12,9 @@ even : (g : given.Over) (c : goal.After-mark_count-marks g)
     → c.mark_count-marks.result * c.in-Some.len ≡ cut_bytes (marks_ahead c.args.self.now)
 even g c =
     let k = c.args.self.now in
-    let all = c.in-Some.ensures (g.S.AnyStr.elements k.text) in
     let law = g.met.F.Searcher.lawful k.searcher k.text in
     let bytes =
-    cut_bytes-even (opening k) law c.in-Some.len all (marks_ahead k) k.progress.made k.progress.place refl in
+    cut_bytes-even (opening k) law c.in-Some.len c.in-Some.ensures (marks_ahead k) k.progress.made k.progress.place refl in
     ap (λ n. n * c.in-Some.len) c.mark_count-marks.ensures ∙ sym bytes
 
 pub overflow_mul-result : goal.overflow_mul-result
