@@ -32,18 +32,18 @@ pub none_further : (marks : Marks) (from at end : ℕ) → NoneBegins marks from
 none_further marks from at end front back b d ge lt m =
     ⊎_elim (λ before. front b d ge before m) (λ past. back b d past lt m) (cases_lt b at)
 
--- 32 bits tell of no offset past as many
-pub whole_begins : (marks : Marks) (at bits : ℕ) → bits < 4294967296 → MayBegin marks at (at + 32) bits
-    → Begins marks at (at + 32) bits
+-- 64 bits tell of no offset past as many
+pub whole_begins : (marks : Marks) (at bits : ℕ) → bits < 18446744073709551616 → MayBegin marks at (at + 64) bits
+    → Begins marks at (at + 64) bits
 whole_begins marks at bits fits may = record {
   may = may;
   below = λ k set.
-      ⊎_elim (λ lt. omega arith) (λ past. absurd (omega (arith, bit_at_above bits 32 k fits past))) (cases_lt k 32);
+      ⊎_elim (λ lt. omega arith) (λ past. absurd (omega (arith, bit_at_above bits 64 k fits past))) (cases_lt k 64);
 }
 
 -- what was seen tells of the offsets that are left from one on
 pub rest_begins : (marks : Marks) (seen : Seen) (from bits : ℕ) → IsSeenOf marks seen → Rest seen from bits
-    → Begins marks from (seen.at + 32) bits
+    → Begins marks from (seen.at + 64) bits
 rest_begins marks seen from bits is rest = record {
   may = λ b e ge lt m.
       let low = rest.low in

@@ -14,9 +14,9 @@ pub record Begins (marks : Marks) (at end bits : ℕ) : Type 0 where
   pub may : MayBegin marks at end bits
   pub below : (k : ℕ) → bit_at bits k ≡ 1 → at + k < end
 
--- of the 32 offsets after `at`, bit k is set where a mark ends at `at + k + 1`, and maybe elsewhere
+-- of the 64 offsets after `at`, bit k is set where a mark ends at `at + k + 1`, and maybe elsewhere
 abbrev pub MayEnd : Marks → (at bits : ℕ) → Type 0
-MayEnd marks at bits = (b e : ℕ) → at < e → e ≤ at + 32 → IsTrue (marks b e) → bit_at bits (e - at - 1) ≡ 1
+MayEnd marks at bits = (b e : ℕ) → at < e → e ≤ at + 64 → IsTrue (marks b e) → bit_at bits (e - at - 1) ≡ 1
 
 -- no mark begins from `at` up to `end`
 abbrev pub NoneBegins : Marks → (at end : ℕ) → Type 0
@@ -38,12 +38,12 @@ FindsBackWithin marks at end (Some m) = Greatest marks end m.start m.end
 
 -- what was seen is so of these marks
 abbrev pub IsSeenOf : Marks → Seen → Type 0
-IsSeenOf marks seen = Begins marks seen.at (seen.at + 32) seen.bits
+IsSeenOf marks seen = Begins marks seen.at (seen.at + 64) seen.bits
 
 -- the bits that were seen, from `from` on
 pub record Rest (seen : Seen) (from bits : ℕ) : Type 0 where
   pub low : seen.at ≤ from
-  pub near : from < seen.at + 32
+  pub near : from < seen.at + 64
   pub moved : (k : ℕ) → bit_at bits k ≡ bit_at seen.bits (from - seen.at + k)
 
 -- what a search from `from` on answers and has seen then

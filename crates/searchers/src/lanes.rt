@@ -1,4 +1,4 @@
-// Bytes compared side by side: at which of 32 offsets some bytes stand, as bits.
+// Bytes compared side by side: at which of 64 offsets some bytes stand, as bits.
 ghost use Rattle.std.specs.Prelude.{◌≡◌, ◌≢◌, ℕ, ◌+◌, ◌<◌, ◌≤◌, ◌==◌, if◌then◌else◌, length};
 ghost use Rattle.std.specs.Prelude.{bit_or, slice_index};
 ghost use Rattle.std.specs.Int.{bit_at};
@@ -9,7 +9,10 @@ ghost use Rattle.searchers.specs.bytesets.Sets.{among};
 use std::simd::prelude::*;
 
 /// The offsets that are looked at side by side.
-pub const LANES: usize = 32;
+pub const LANES: usize = 64;
+
+// As many bytes are compared at once.
+const HALF: usize = LANES / 2;
 
 #[inline(always)]
 fn load(bytes: &[u8], at: usize) -> u8x32
@@ -50,7 +53,7 @@ fn top_bits(lanes: u8x32) -> u32
 #[inline(always)]
 fn whole_among(bytes: &[u8], at: usize, set: &[u8]) -> u32
     requires { at + 32 ≤ length bytes.now }
-    ensures { Places (among set.now) bytes.now at result }
+    ensures { Places (among set.now) bytes.now 32 at result }
 {
     let lanes = load(bytes, at);
     let mut hits = u8x32::splat(0);
@@ -60,28 +63,38 @@ fn whole_among(bytes: &[u8], at: usize, set: &[u8]) -> u32
     top_bits(hits)
 }
 
-/// Where one of the bytes of `set` stands at one of the 32 offsets from `at` on: bit k is set where
-/// one does at `at + k`, and maybe elsewhere. Among fewer than 32 bytes every bit is set.
+// The same near the end too: there the last 32 bytes are looked at, and those before `at` are let
+// go. Among fewer than 32 bytes every bit is set.
 #[inline(always)]
-pub fn places_among(bytes: &[u8], at: usize, set: &[u8]) -> u32
-    ensures { Places (among set.now) bytes.now at result }
+fn half_among(bytes: &[u8], at: usize, set: &[u8]) -> u32
+    ensures { Places (among set.now) bytes.now 32 at result }
 {
-    // at the end the last 32 bytes are looked at, and those before `at` are let go
-    let Some(last) = bytes.len().checked_sub(LANES) else {
+    let Some(last) = bytes.len().checked_sub(HALF) else {
         return u32::MAX;
     };
     let start = at.min(last);
-    if at - start >= LANES {
+    if at - start >= HALF {
         return 0;
     }
     whole_among(bytes, start, set) >> (at - start)
 }
 
+/// Where one of the bytes of `set` stands at one of the 64 offsets from `at` on: bit k is set where
+/// one does at `at + k`, and maybe elsewhere.
+#[inline(always)]
+pub fn places_among(bytes: &[u8], at: usize, set: &[u8]) -> u64
+    ensures { Places (among set.now) bytes.now 64 at result }
+{
+    let front = half_among(bytes, at, set) as u64;
+    let back = half_among(bytes, at.saturating_add(HALF), set) as u64;
+    front | (back << HALF)
+}
+
 // The lowest bit that is set.
 #[inline(always)]
-pub(crate) fn lowest(bits: u32) -> usize
+pub(crate) fn lowest(bits: u64) -> usize
     requires { bits ≢ 0 }
-    ensures bound { result < 32 }
+    ensures bound { result < 64 }
     ensures set { bit_at bits result ≡ 1 }
     ensures below { (k : ℕ) → k < result → bit_at bits k ≡ 0 }
 {
@@ -90,9 +103,9 @@ pub(crate) fn lowest(bits: u32) -> usize
 
 // The highest bit that is set.
 #[inline(always)]
-pub(crate) fn highest(bits: u32) -> usize
+pub(crate) fn highest(bits: u64) -> usize
     requires { bits ≢ 0 }
-    ensures bound { result < 32 }
+    ensures bound { result < 64 }
     ensures set { bit_at bits result ≡ 1 }
     ensures above { (k : ℕ) → result < k → bit_at bits k ≡ 0 }
 {
@@ -101,11 +114,11 @@ pub(crate) fn highest(bits: u32) -> usize
 
 // The bits without one that is set.
 #[inline(always)]
-pub(crate) fn without(bits: u32, bit: usize) -> u32
-    requires bound { bit < 32 }
+pub(crate) fn without(bits: u64, bit: usize) -> u64
+    requires bound { bit < 64 }
     requires set { bit_at bits bit ≡ 1 }
     ensures smaller { result < bits }
-    ensures kept { (k : ℕ) → k < 32 → k ≢ bit → bit_at result k ≡ bit_at bits k }
+    ensures kept { (k : ℕ) → k < 64 → k ≢ bit → bit_at result k ≡ bit_at bits k }
     ensures no_more { (k : ℕ) → bit_at result k ≡ 1 → bit_at bits k ≡ 1 }
 {
     bits & !(1 << bit)

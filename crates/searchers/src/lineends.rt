@@ -32,12 +32,12 @@ impl Pattern for LineEnds {
     ghost lawful = { λ _. line_end-lawful };
 
     #[inline(always)]
-    fn begins(&self, bytes: &[u8], at: usize) -> u32 {
+    fn begins(&self, bytes: &[u8], at: usize) -> u64 {
         places_among(bytes, at, b"\r\n")
     }
 
     #[inline(always)]
-    fn ends(&self, bytes: &[u8], at: usize) -> u32 {
+    fn ends(&self, bytes: &[u8], at: usize) -> u64 {
         places_among(bytes, at, b"\r\n")
     }
 

@@ -16,14 +16,14 @@ pub trait Pattern {
     // in all bytes a mark has a start below its end; no two share a start, and no two share an end
     ghost lawful: { (f : Self) (bs : List ℕ) → Lawful (marks f bs) (length bs) };
 
-    /// Where marks may begin among the 32 offsets from `at` on: bit k is set where one begins at
+    /// Where marks may begin among the 64 offsets from `at` on: bit k is set where one begins at
     /// `at + k`, and maybe elsewhere.
-    fn begins(&self, bytes: &[u8], at: usize) -> u32
-        ensures { MayBegin (marks self.now bytes.now) at (at + 32) result };
+    fn begins(&self, bytes: &[u8], at: usize) -> u64
+        ensures { MayBegin (marks self.now bytes.now) at (at + 64) result };
 
-    /// Where marks may end among the 32 offsets after `at`: bit k is set where one ends at
+    /// Where marks may end among the 64 offsets after `at`: bit k is set where one ends at
     /// `at + k + 1`, and maybe elsewhere.
-    fn ends(&self, bytes: &[u8], at: usize) -> u32
+    fn ends(&self, bytes: &[u8], at: usize) -> u64
         ensures { MayEnd (marks self.now bytes.now) at result };
 
     /// An offset from `at` on, such that no mark begins from `at` up to it.
@@ -55,8 +55,8 @@ pub trait Pattern {
 
 // The first mark that begins where one may, by the bits of the offsets from `at` on.
 #[inline(always)]
-fn first_of<P: Pattern>(pattern: &P, bytes: &[u8], at: usize, begins: u32) -> Option<Mark>
-    requires { at ≤ length bytes.now + 32 }
+fn first_of<P: Pattern>(pattern: &P, bytes: &[u8], at: usize, begins: u64) -> Option<Mark>
+    requires { at ≤ length bytes.now + 64 }
     ensures { (end : ℕ) → Begins (P.marks pattern.now bytes.now) at end begins
         → FindsWithin (P.marks pattern.now bytes.now) at end result }
 {
@@ -88,8 +88,8 @@ fn look<P: Pattern>(pattern: &P, bytes: &[u8], at: usize) -> Seen
 #[inline(always)]
 fn look_on<P: Pattern>(pattern: &P, bytes: &[u8], seen: Seen) -> Seen
     requires { seen.at < length bytes.now }
-    ensures low { seen.at + 32 ≤ result.at }
-    ensures passed { NoneBegins (P.marks pattern.now bytes.now) (seen.at + 32) result.at }
+    ensures low { seen.at + 64 ≤ result.at }
+    ensures passed { NoneBegins (P.marks pattern.now bytes.now) (seen.at + 64) result.at }
     ensures seen { IsSeenOf (P.marks pattern.now bytes.now) result }
 {
     let at = seen.at + LANES;
@@ -102,12 +102,12 @@ fn look_on<P: Pattern>(pattern: &P, bytes: &[u8], seen: Seen) -> Seen
 
 // The bits of the offsets from `from` on, out of what was seen; where it is not there, by a new look.
 #[inline(always)]
-fn bits_from<P: Pattern>(pattern: &P, bytes: &[u8], from: usize, seen: &mut Seen) -> u32
+fn bits_from<P: Pattern>(pattern: &P, bytes: &[u8], from: usize, seen: &mut Seen) -> u64
     ensures low { seen.new.at ≤ from }
-    ensures near { from < seen.new.at + 32 }
+    ensures near { from < seen.new.at + 64 }
     ensures seen { IsSeenOf (P.marks pattern.now bytes.now) seen.old
         → IsSeenOf (P.marks pattern.now bytes.now) seen.new
-        × Begins (P.marks pattern.now bytes.now) from (seen.new.at + 32) result }
+        × Begins (P.marks pattern.now bytes.now) from (seen.new.at + 64) result }
 {
     if let Some(bits) = seen.rest(from) {
         return bits;
@@ -153,10 +153,10 @@ pub fn first_mark<P: Pattern>(pattern: &P, bytes: &[u8], from: usize) -> Option<
 
 // The last mark that ends where one may, by the bits of the offsets after `at`.
 #[inline(always)]
-fn last_of<P: Pattern>(pattern: &P, bytes: &[u8], at: usize, ends: u32) -> Option<Mark>
-    requires within { at + 32 ≤ length bytes.now }
+fn last_of<P: Pattern>(pattern: &P, bytes: &[u8], at: usize, ends: u64) -> Option<Mark>
+    requires within { at + 64 ≤ length bytes.now }
     requires bits { MayEnd (P.marks pattern.now bytes.now) at ends }
-    ensures { FindsBackWithin (P.marks pattern.now bytes.now) at (at + 32) result }
+    ensures { FindsBackWithin (P.marks pattern.now bytes.now) at (at + 64) result }
 {
     let mut left = ends;
     while left != 0 {

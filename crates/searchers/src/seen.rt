@@ -5,13 +5,13 @@ ghost use Rattle.searchers.specs.Seen.{IsSeenOf, Rest};
 
 use crate::lanes::LANES;
 
-/// What was seen of a text: at which of the 32 offsets from one on marks may begin.
+/// What was seen of a text: at which of the 64 offsets from one on marks may begin.
 #[derive(Clone, Copy)]
 pub struct Seen {
     // the first of the offsets
     pub(crate) at: usize,
     // bit k is set where a mark may begin at `at + k`
-    pub(crate) bits: u32,
+    pub(crate) bits: u64,
 }
 
 impl Seen {
@@ -22,13 +22,13 @@ impl Seen {
         // past every text, so that no search takes it up
         Seen {
             at: usize::MAX,
-            bits: u32::MAX,
+            bits: u64::MAX,
         }
     }
 
     // The bits from `from` on, where it is one of the offsets: bit k is that of `from + k`.
     #[inline(always)]
-    pub(crate) fn rest(&self, from: usize) -> Option<u32>
+    pub(crate) fn rest(&self, from: usize) -> Option<u64>
         ensures { IfSome result (Rest self.now from) }
     {
         let passed = from.checked_sub(self.at)?;

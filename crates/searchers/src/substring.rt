@@ -79,7 +79,7 @@ impl<'a> Pattern for Needle<'a> {
 
     // by the first byte of the needle, and by its last
     #[inline(always)]
-    fn begins(&self, bytes: &[u8], at: usize) -> u32 {
+    fn begins(&self, bytes: &[u8], at: usize) -> u64 {
         let [first, .., last] = self.bytes else {
             return places_among(bytes, at, self.bytes);
         };
@@ -88,12 +88,12 @@ impl<'a> Pattern for Needle<'a> {
     }
 
     #[inline(always)]
-    fn ends(&self, bytes: &[u8], at: usize) -> u32 {
+    fn ends(&self, bytes: &[u8], at: usize) -> u64 {
         let [first, .., last] = self.bytes else {
             return places_among(bytes, at, self.bytes);
         };
         let Some(start) = at.checked_sub(self.bytes.len() - 1) else {
-            return u32::MAX;
+            return u64::MAX;
         };
         places_among(bytes, start, &[*first]) & places_among(bytes, at, &[*last])
     }

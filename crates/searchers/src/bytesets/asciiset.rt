@@ -73,12 +73,12 @@ impl Pattern for AsciiSet {
     ghost lawful = { λ f. single_bytes-lawful (has_ascii f) };
 
     #[inline(always)]
-    fn begins(&self, bytes: &[u8], at: usize) -> u32 {
+    fn begins(&self, bytes: &[u8], at: usize) -> u64 {
         self.set.begins(bytes, at)
     }
 
     #[inline(always)]
-    fn ends(&self, bytes: &[u8], at: usize) -> u32 {
+    fn ends(&self, bytes: &[u8], at: usize) -> u64 {
         self.set.ends(bytes, at)
     }
 

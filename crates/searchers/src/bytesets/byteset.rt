@@ -71,13 +71,13 @@ impl ByteSet {
         self.has[byte as usize] = true;
     }
 
-    // Where bytes of the set may stand among the 32 from `at` on.
+    // Where bytes of the set may stand among the 64 from `at` on.
     #[inline(always)]
-    fn places(&self, bytes: &[u8], at: usize) -> u32
-        ensures { Places (has_byte self.now) bytes.now at result }
+    fn places(&self, bytes: &[u8], at: usize) -> u64
+        ensures { Places (has_byte self.now) bytes.now 64 at result }
     {
         if self.len > FEW {
-            return u32::MAX;
+            return u64::MAX;
         }
         places_among(bytes, at, &self.listed[..self.len])
     }
@@ -99,13 +99,13 @@ impl Pattern for ByteSet {
     ghost lawful = { λ f. single_bytes-lawful (has_byte f) };
 
     #[inline(always)]
-    fn begins(&self, bytes: &[u8], at: usize) -> u32 {
+    fn begins(&self, bytes: &[u8], at: usize) -> u64 {
         self.places(bytes, at)
     }
 
     // each mark is one byte
     #[inline(always)]
-    fn ends(&self, bytes: &[u8], at: usize) -> u32 {
+    fn ends(&self, bytes: &[u8], at: usize) -> u64 {
         self.places(bytes, at)
     }
 

@@ -19,5 +19,5 @@ returns g c =
     let at = c.look.ensures.at in record {
       low = omega arith;
       near = omega arith;
-      seen = λ of. (c.look.ensures.seen, subst (λ n. Begins marks n (seen.at + 32) seen.bits) at c.look.ensures.seen);
+      seen = λ of. (c.look.ensures.seen, subst (λ n. Begins marks n (seen.at + 64) seen.bits) at c.look.ensures.seen);
     }

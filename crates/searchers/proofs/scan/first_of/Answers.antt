@@ -8,7 +8,7 @@ pub loop-left-preserved : goal.loop-left-preserved
 loop-left-preserved g c =
     let marks = g.P.Pattern.marks c.args.pattern.now c.args.bytes.now in
     let left = c.loop-left.left in
-    let small : left < 4294967296 = omega (arith, c.loop-left.invariant.0, c.ranges.begins.fits) in (
+    let small : left < 18446744073709551616 = omega (arith, c.loop-left.invariant.0, c.ranges.begins.fits) in (
       omega (arith, c.loop-left.invariant.0, c.without-left.ensures.smaller),
       λ end all.
           let before = c.loop-left.invariant.1 end all in record {
@@ -21,7 +21,7 @@ loop-left-preserved g c =
                 let there : c.args.at + c.lowest-bit.result ≡ b = omega arith in
                 absurd (c.in_default.ensures e (subst (λ (p : ℕ). IsTrue (marks p e)) (omega arith) m)))
                 (λ apart. c.without-left.ensures.kept k
-                (⊎_elim (λ lt. lt) (λ past. absurd (omega (arith, bit_at_above left 32 k small past))) (cases_lt k 32)) apart ∙ set)
+                (⊎_elim (λ lt. lt) (λ past. absurd (omega (arith, bit_at_above left 64 k small past))) (cases_lt k 64)) apart ∙ set)
                 (cases_eq k c.lowest-bit.result);
             below = λ k set. before.below k (c.without-left.ensures.no_more k set);
           },

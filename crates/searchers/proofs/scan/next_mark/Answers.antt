@@ -10,7 +10,7 @@ loop-seen-init g c =
 pub loop-seen-preserved : goal.loop-seen-preserved
 loop-seen-preserved g c =
     let marks = g.P.Pattern.marks c.args.pattern.now c.args.bytes.now in
-    let end : ℕ = c.loop-seen.seen.at + 32 in
+    let end : ℕ = c.loop-seen.seen.at + 64 in
     let next = c.look_on.result in
     let inv = c.loop-seen.invariant in (
       omega (arith, inv.0, inv.2, c.look_on.ensures.low),
@@ -29,5 +29,5 @@ pub returns-in-Some-clause-value : goal.returns-in-Some-clause-value
 returns-in-Some-clause-value g c of =
     let marks = g.P.Pattern.marks c.args.pattern.now c.args.bytes.now in
     let before = c.loop-seen.invariant.3 of in
-    let found = c.in-Some.ensures (c.loop-seen.seen.at + 32) before.1 in
+    let found = c.in-Some.ensures (c.loop-seen.seen.at + 64) before.1 in
     found_later marks c.args.from c.loop-seen.at (Some c.in-Some.mark) c.loop-seen.invariant.0 before.2 found

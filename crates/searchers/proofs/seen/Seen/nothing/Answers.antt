@@ -5,7 +5,7 @@ use Rattle.searchers.proofs.seen.Seen.nothing.Goals as goal
 
 pub returns : goal.returns
 returns c marks = record {
-  may = λ b e low high m. bit_at_ones 32 (b - 18446744073709551615) (omega arith);
+  may = λ b e low high m. bit_at_ones 64 (b - 18446744073709551615) (omega arith);
   below = λ k set.
-      ⊎_elim (λ lt. omega arith) (λ past. absurd (omega (arith, bit_at_ones_above 32 k past))) (cases_lt k 32);
+      ⊎_elim (λ lt. omega arith) (λ past. absurd (omega (arith, bit_at_ones_above 64 k past))) (cases_lt k 64);
 }

@@ -16,7 +16,7 @@ returns-in_default c b e gt le m =
     c.places_among.ensures k (omega arith) (omega arith) (among_at n bs _ b _ (omega arith) first (first_among n fit.0))
 
 pub returns-in_default-checked_sub : goal.returns-in_default-checked_sub
-returns-in_default-checked_sub c b e gt le m = bit_at_ones 32 (e - c.args.at - 1) (omega arith)
+returns-in_default-checked_sub c b e gt le m = bit_at_ones 64 (e - c.args.at - 1) (omega arith)
 
 pub returns : goal.returns
 returns c b e gt le m =
