@@ -62,8 +62,8 @@ module _ {S F C : Type 0} {s : AnyStr.Ghosts S C} {f : Searcher.Ghosts F S C} (c
     -- what a pour takes, by a tally of these marks
     pub measured : c.progress.spent ≡ false → size (opening c) ≤ most_bytes
         → (to : S) → length (concat (s.elements to)) ≤ most_bytes
-        → (rest : Span) → rest ≡ (c.progress.place, size (opening c)) → (tally : Tally) → IsTallyOf (marks_ahead c) tally
-        → (copy : ℕ) → copy ≡ length (concat (s.elements to))
+        → (rest : Span) → rest ≡ (c.progress.place, size (opening c))
+        → (tally : Tally) → IsTallyOf (marks_ahead c) tally → (copy : ℕ) → copy ≡ length (concat (s.elements to))
         → Measured (length (poured_by c to)) (rest.1 - rest.0) tally.marks copy tally.bytes
     measured unspent few to short rest is tally counts copy same =
         let on = opening c in
@@ -74,7 +74,8 @@ module _ {S F C : Type 0} {s : AnyStr.Ghosts S C} {f : Searcher.Ghosts F S C} (c
         let end = ap (λ (p : Span). p.1) is in
         let here = ap (λ (b : Bool). length (poured on.bytes bytes place (cond {A = List Span} b [] ms))) unspent in
         let all = length-poured on law bytes ms c.progress.made place place-within refl in
-        let some : length ms ≤ most_bytes = omega (arith, cuts_within on law ms c.progress.made place place-within refl) in
+        let within = cuts_within on law ms c.progress.made place place-within refl in
+        let some : length ms ≤ most_bytes = omega arith in
         record {
           sum = rw (counts.marks, counts.bytes, same) (omega (arith, here, all, start, end));
           few = omega (arith, start, end);

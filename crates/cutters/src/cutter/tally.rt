@@ -70,8 +70,8 @@ impl<S: AnyStr, F: Searcher<S>> Cutter<S, F> {
         }
     }
 
-    /// The number of pieces that are left.
-    pub fn count(&self) -> usize
+    // The number of pieces that are left.
+    pub(crate) fn count(&self) -> usize
         ensures { result ≡ length (left_pieces self.now) }
     {
         if self.progress.spent {
