@@ -1,6 +1,6 @@
 // Bytes compared side by side: at which of 64 offsets some bytes stand, as bits.
 ghost use Rattle.std.specs.Prelude.{◌≡◌, ◌≢◌, ℕ, ◌+◌, ◌<◌, ◌≤◌, ◌==◌, if◌then◌else◌, length};
-ghost use Rattle.std.specs.Prelude.{bit_or, slice_index};
+ghost use Rattle.std.specs.Prelude.{bit_or, count_by, drop, slice_index, take};
 ghost use Rattle.std.specs.Int.{bit_at};
 ghost use Rattle.memchr.specs.Lanes.{HasLanes};
 ghost use Rattle.searchers.specs.Lanes.{Places};
@@ -88,6 +88,37 @@ pub fn places_among(bytes: &[u8], at: usize, set: &[u8]) -> u64
     let front = half_among(bytes, at, set) as u64;
     let back = half_among(bytes, at.saturating_add(HALF), set) as u64;
     front | (back << HALF)
+}
+
+// How often the byte stands among the 32 from `at` on.
+#[inline(always)]
+fn times_in(bytes: &[u8], at: usize, byte: u8) -> usize
+    requires { at + 32 ≤ length bytes.now }
+    ensures value { result ≡ count_by (λ x. x == byte) (take 32 (drop at bytes.now)) }
+    ensures few { result ≤ 32 }
+{
+    u8x32::from_slice(&bytes[at..])
+        .simd_eq(u8x32::splat(byte))
+        .to_bitmask()
+        .count_ones() as usize
+}
+
+// How often the byte stands in the bytes.
+pub(crate) fn times(bytes: &[u8], byte: u8) -> usize
+    ensures { result ≡ count_by (λ x. x == byte) bytes.now }
+{
+    let mut count = 0;
+    let mut at = 0;
+    while HALF <= bytes.len() - at {
+        count += times_in(bytes, at, byte);
+        at += HALF;
+    }
+    for other in &bytes[at..] {
+        if *other == byte {
+            count += 1;
+        }
+    }
+    count
 }
 
 // The lowest bit that is set.

@@ -10,14 +10,14 @@ ghost use Rattle.searchers.specs.Seen.{IsSeenOf};
 ghost use Rattle.searchers.specs.substring.Occurrences.{occurrence, occurrence-lawful};
 ghost use Rattle.searchers.specs.substring.Substrings.{needle_of, needle_bytes};
 
-use crate::lanes::{LANES, places_among};
+use crate::lanes::{LANES, places_among, times};
 use crate::mark::Mark;
 use crate::scan::{Pattern, last_mark, next_mark};
 use crate::searcher::{ReverseSearcher, Searcher};
 use crate::seen::Seen;
 use anystr::anystr::AnyStr;
 use anystr::refusal::Refusal;
-use memchr::{memchr_iter, memmem};
+use memchr::memmem;
 
 /// A searcher whose marks are all occurrences of a nonempty text, overlapping ones too.
 #[derive(Clone, Copy)]
@@ -191,7 +191,7 @@ fn count_byte(byte: u8, bytes: &[u8], from: usize) -> usize
     let Some(rest) = bytes.get(from..) else {
         return 0;
     };
-    memchr_iter(byte, rest).count()
+    times(rest, byte)
 }
 
 impl<S: AnyStr> Searcher<S> for Substring<S> {

@@ -1,8 +1,6 @@
 use Rattle.std.proofs.Common.{◌≡◌, ◌-◌, length, count_by, drop, ap, ◌∙◌, sym, subst, arith, [], ◌∷◌, ⊎_elim}
 use Rattle.std.specs.Prelude.{◌==◌}
 use Rattle.std.proofs.lemmas.List.{take_rest}
-use Rattle.memchr.specs.Find.{is_byte}
-use Rattle.memchr.proofs.lemmas.CallerLemmas.{length-places}
 use Rattle.searchers.specs.Marks.{CutTimes}
 use Rattle.searchers.specs.substring.Occurrences.{occurrence, fits}
 use Rattle.searchers.proofs.substring.Times.{cut_times}
@@ -16,8 +14,8 @@ returns c =
     let rest = c.in-Some.rest.now in
     let at = c.in-Some.ensures.lookup.0 in
     let is : rest ≡ drop from bs = at.2 ∙ take_rest bs from in
-    let count : count_by (λ x. x == b) (drop from bs) ≡ c.count.result =
-    sym (c.count.ensures ∙ (ap length c.memchr_iter.ensures.value ∙ (length-places (is_byte b) rest ∙ ap (count_by (λ x. x == b)) is))) in
+    let count : count_by (λ x. x == b) (drop from bs) ≡ c.times.result =
+    sym (c.times.ensures ∙ ap (count_by (λ x. x == b)) is) in
     subst (CutTimes (occurrence (b ∷ []) bs) from) count (cut_times b bs (length bs - from) from (omega (arith, at.0)))
 
 pub returns-in_default : goal.returns-in_default

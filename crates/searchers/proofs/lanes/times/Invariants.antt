@@ -1,0 +1,12 @@
+use Rattle.std.proofs.Common.{◌≡◌, ◌+◌, ◌-◌, ◌≤◌, count_by, take, length}
+use Rattle.std.specs.Prelude.{◌==◌}
+use Rattle.searchers.proofs.lanes.times.Given as goal
+
+abbrev pub invariant-loop-at : goal.invariant-loop-at
+invariant-loop-at l = (l.at ≤ length l.bytes) × (l.count ≡ count_by (λ x. x == l.byte) (take l.at l.bytes)) × (l.count ≤ l.at)
+
+abbrev pub decreases-loop-at : goal.decreases-loop-at
+decreases-loop-at l = length l.bytes - l.at
+
+abbrev pub invariant-loop-other : goal.invariant-loop-other
+invariant-loop-other l = (l.count ≡ count_by (λ x. x == l.byte) (take (l.at + l.other-index) l.bytes)) × (l.count ≤ l.at + l.other-index)
