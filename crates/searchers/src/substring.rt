@@ -55,6 +55,9 @@ const FAR: usize = 128;
 fn stands(needle: &[u8], bytes: &[u8], start: usize) -> bool
     ensures { IsTrue result ↔ Occurs bytes.now needle.now start }
 {
+    if let [byte] = needle {
+        return bytes.get(start) == Some(byte);
+    }
     if bytes.len().saturating_sub(start) < needle.len() {
         return false;
     }
