@@ -13,7 +13,7 @@ use anystr::refusal::Refusal;
 use std::simd::prelude::*;
 
 // The bytes of a batch.
-const BATCH_BYTES: usize = 1024;
+const BATCH_BYTES: usize = 256;
 
 // The bytes that are copied at once.
 const STRIDE: usize = 32;
