@@ -15,6 +15,7 @@ use cutters::bound::UNBOUNDED;
 use cutters::cutter::Cutter;
 use searchers::substring::Substring;
 use trays::container::AnyStrContainer;
+use trays::gather::Gather;
 
 /// The most bytes of a result: its length is a signed number of 64 bits.
 pub const MAX_RESULT: u64 = i64::MAX as u64;
@@ -70,16 +71,18 @@ impl<S: AnyStr> Replacement<S> {
         ensures same_loan { T.loan tray.new ≡ T.loan tray.old }
     {
         // the interface of texts has no iterator over elements, only the element at an offset
+        let mut gather = Gather::new(tray);
         let mut place = 0;
         for _ in 0..copies {
-            let _ = tray.push_str(&self.to);
+            let _ = gather.push_str(&self.to);
             if let Some((_, len)) = self.text.element_at(place) {
                 let end = place + len;
-                let _ = tray.push_str(&self.text.get_bytes(place..end));
+                let _ = gather.push_part(&self.text, place, end);
                 place = end;
             }
         }
-        let _ = tray.push_str(&self.text.get_bytes(place..self.text.bytes_len()));
+        let _ = gather.push_part(&self.text, place, self.text.bytes_len());
+        let _ = gather.finish();
     }
 
     // The text with `to` before each element and at the end.

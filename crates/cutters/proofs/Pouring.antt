@@ -1,8 +1,8 @@
 -- A tray while bytes are poured into it.
-use Rattle.std.proofs.Common.{◌≡◌, ℕ, ◌≤◌, Bool, true, false, cond, List, [], ◌++◌, length, drop, ap, ◌∙◌, arith}
+use Rattle.std.proofs.Common.{◌≡◌, ℕ, ◌≤◌, Bool, true, false, cond, List, [], ◌++◌, length, drop, Ok, Result, ap, ◌∙◌, arith}
 use Rattle.std.proofs.Common.{length-append, length-drop}
-use Rattle.trays.specs.Trays.{Contents, gained}
-use Rattle.trays.proofs.Gains.{gained-append}
+use Rattle.trays.specs.Trays.{Contents, gained, IsFilled}
+use Rattle.trays.proofs.Gains.{gained-append, took}
 
 -- with `rest` still to come, which fits, the tray will be `full`
 pub record Pouring (tray : Contents) (rest : List ℕ) (full : Contents) : Type 0 where
@@ -19,26 +19,14 @@ pushed tray bytes rest full tray' p e =
       whole = ap (λ (t : Contents). gained t rest) e ∙ (gained-append tray bytes rest ∙ p.whole);
     }
 
--- one turn of the pass that pours: a piece's bytes, and then those that come after it
-module _
-    (tray : Contents) (rest piece gap rest' : List ℕ) (full : Contents)
-    (so_far : Pouring tray rest full) (parts : rest ≡ piece ++ (gap ++ rest'))
-  where
-    split : Pouring tray (piece ++ (gap ++ rest')) full
-    split = rw parts at so_far
-
-    pub piece-fits : length piece ≤ length tray.spare
-    piece-fits = omega (arith, split.room, length-append piece (gap ++ rest'))
-
-    module _ (half : Contents) (first : half ≡ gained tray piece) where
-      between : Pouring half (gap ++ rest') full
-      between = pushed tray piece (gap ++ rest') full half split first
-
-      pub gap_fits : length gap ≤ length half.spare
-      gap_fits = omega (arith, between.room, length-append gap rest')
-
-      pub gap_poured : (tray' : Contents) → tray' ≡ gained half gap → Pouring tray' rest' full
-      gap_poured tray' e = pushed half gap rest' full tray' between e
+-- a push of what comes next is taken
+pub took_next : {X : Type 0} (bytes rest : List ℕ) {before : List ℕ} {tray full : Contents} (tray' : Contents)
+    (r : Result X (ℕ × ℕ)) → before ≡ bytes ++ rest → Pouring tray before full
+    → IsFilled (Ok bytes) tray tray' r → Pouring tray' rest full
+took_next bytes rest {tray = tray} {full = full} tray' r split p push =
+    let so_far = rw split at p in
+    let fits : length bytes ≤ length tray.spare = omega (arith, so_far.room, length-append bytes rest) in
+    pushed tray bytes rest full tray' so_far (took bytes tray tray' r fits push)
 
 -- no more bytes come after a piece than stand in place of a mark
 pub gap_short : (last : Bool) (to : List ℕ) → length (cond last [] to) ≤ length to

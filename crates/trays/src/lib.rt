@@ -4,5 +4,6 @@
 pub mod anytray;
 pub mod buffer;
 pub mod container;
+pub mod gather;
 pub mod label;
 mod put;

@@ -8,9 +8,6 @@ use Rattle.anystr.specs.Elements.{Cut}
 use Rattle.anystr.specs.Limits.{most_bytes}
 use Rattle.anystr.specs.Places.{stretch, stretches, part, with_between, join_parts}
 use Rattle.anystr.specs.declared.place.Place.{Place}
-use Rattle.trays.specs.Trays.{Contents, IsFilled}
-use Rattle.trays.proofs.Gains.{took}
-use Rattle.cutters.proofs.Pouring.{Pouring, pushed}
 use Rattle.bytesinner.specs.joins.Joins.{most_places, first_bad}
 use Rattle.bytesinner.proofs.joins.Places.{passes, stops, none-bad, part-long}
 
@@ -38,9 +35,6 @@ module _ (es : List (List ℕ)) (places : List Place) (i : ℕ) (within : i < le
 
   pub good_more : good → first_bad es (i + 1) past ≡ first_bad es i (stretches (drop i places))
   good_more cut = sym (rw here (passes es i (stretch place) past cut) ∙ ap (λ n. first_bad es n past) (sym (add-one i)))
-
-  pub good-here : first_bad es i (stretches (drop i places)) ≡ None → good
-  good-here h = none-bad es i (stretch place) past (rw here at h)
 
   pub bad-here : (good → ⊥) → first_bad es i (stretches (drop i places)) ≡ Some i
   bad-here bad = rw here (stops es i (stretch place) past bad)
@@ -124,15 +118,6 @@ module _ (sep bytes : List ℕ) (places : List Place) where
         bare_fits bytes (stretches places),
         ap (λ n. n * length bytes) (length-map places stretch),
       )
-
--- a push of what comes next is taken
-pub took_next : {X : Type 0} (bytes rest : List ℕ) {before : List ℕ} {tray full : Contents} (tray' : Contents)
-    (r : Result X (ℕ × ℕ)) → before ≡ bytes ++ rest → Pouring tray before full
-    → IsFilled (Ok bytes) tray tray' r → Pouring tray' rest full
-took_next bytes rest {tray = tray} {full = full} tray' r split p push =
-    let so_far = rw split at p in
-    let fits : length bytes ≤ length tray.spare = omega (arith, so_far.room, length-append bytes rest) in
-    pushed tray bytes rest full tray' so_far (took bytes tray tray' r fits push)
 
 -- the part of index 0 comes alone, and each later one behind a separator
 first : (sep x : List ℕ) (xs : List (List ℕ)) (n : ℕ) → n ≤ 0 → rest_of sep n (x ∷ xs) ≡ x ++ behind sep xs

@@ -1,5 +1,5 @@
 // The passes over the parts of a join.
-ghost use Rattle.std.specs.Prelude.{◌≡◌, ◌≤◌, length, None};
+ghost use Rattle.std.specs.Prelude.{◌≡◌, ◌≤◌, length};
 ghost use Rattle.anystr.specs.Refusals.{coded};
 ghost use Rattle.trays.specs.Trays.{gained};
 ghost use Rattle.bytesinner.specs.joins.Joins.{unless_bad};
@@ -9,6 +9,7 @@ use super::Parts;
 use anystr::anystr::AnyStr;
 use anystr::refusal::Refusal;
 use trays::container::AnyStrContainer;
+use trays::gather::Gather;
 
 impl<'a, S: AnyStr> Parts<'a, S> {
     // The bytes that they take joined; refused, with its index, at the first place that is no part
@@ -31,17 +32,18 @@ impl<'a, S: AnyStr> Parts<'a, S> {
 
     // Appends them joined, where all fit, so that no push is refused.
     pub(super) fn pour<T: AnyStrContainer>(&self, tray: &mut T)
-        requires good { bad_part self.now ≡ None }
-        requires fits { length (joined_parts self.now) ≤ length (T.contents tray.old).spare }
+        requires { length (joined_parts self.now) ≤ length (T.contents tray.old).spare }
         ensures gained { T.contents tray.new
             ≡ gained (T.contents tray.old) (joined_parts self.now) }
         ensures same_loan { T.loan tray.new ≡ T.loan tray.old }
     {
+        let mut gather = Gather::new(tray);
         for (index, place) in self.places.iter().enumerate() {
             if index > 0 {
-                let _ = tray.push_str(&self.sep);
+                let _ = gather.push_str(&self.sep);
             }
-            let _ = tray.push_str(&self.text.get_bytes(place.start..place.end));
+            let _ = gather.push_part(&self.text, place.start, place.end);
         }
+        let _ = gather.finish();
     }
 }

@@ -2,7 +2,6 @@
 ghost use Rattle.std.specs.Prelude.{◌≡◌, ◌-◌, ◌≤◌, true, false, if◌then◌else◌};
 ghost use Rattle.std.specs.Prelude.{[], length, take, drop};
 ghost use Rattle.std.specs.Prelude.{Some};
-ghost use Rattle.anystr.specs.Limits.{most_bytes};
 ghost use Rattle.anystr.specs.Texts.{bytes_of};
 ghost use Rattle.trays.specs.Trays.{gained};
 ghost use Rattle.cuts.specs.Cuts.{at, at_opening, poured_out, size};
@@ -20,6 +19,7 @@ use anystr::refusal::Refusal;
 use searchers::searcher::Searcher;
 use searchers::seen::Seen;
 use trays::container::AnyStrContainer;
+use trays::gather::Gather;
 
 // The bytes from `start` to `end`, as far as there are any.
 fn stretch(bytes: &[u8], start: usize, end: usize) -> &[u8]
@@ -33,16 +33,6 @@ fn gap_after<S: AnyStr>(progress: Progress, to: &S) -> &[u8]
     ensures { result.now ≡ (if progress.spent then [] else bytes_of S.AnyStr to.now) }
 {
     if progress.spent { &[] } else { to.as_bytes() }
-}
-
-// Appends bytes that fit.
-fn append<T: AnyStrContainer>(bytes: &[u8], tray: &mut T)
-    requires few { length bytes.now ≤ most_bytes }
-    requires fits { length bytes.now ≤ length (T.contents tray.old).spare }
-    ensures gained { T.contents tray.new ≡ gained (T.contents tray.old) bytes.now }
-    ensures same_loan { T.loan tray.new ≡ T.loan tray.old }
-{
-    let _ = tray.push_str(&Bytes::new(bytes));
 }
 
 impl<S: AnyStr, F: Searcher<S>> Cutter<S, F> {
@@ -147,11 +137,12 @@ impl<S: AnyStr, F: Searcher<S>> Cutter<S, F> {
         ensures same { SameOpening self.old self.new }
     {
         let text = self.text;
-        let bytes = text.as_bytes();
+        let mut gather = Gather::new(tray);
         while let Some(piece) = self.next() {
-            append(stretch(bytes, piece.start, piece.end), tray);
-            append(gap_after(self.progress, to), tray);
+            let _ = gather.push_part(&text, piece.start, piece.end);
+            let _ = gather.push_str(&Bytes::new(gap_after(self.progress, to)));
         }
+        let _ = gather.finish();
     }
 
     /// Appends the rest to the tray, with `to` in place of each mark that is still to be cut; the cutter is then spent.

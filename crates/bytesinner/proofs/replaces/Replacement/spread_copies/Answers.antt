@@ -1,4 +1,4 @@
-use Rattle.std.proofs.Common.{◌≡◌, suc, ◌+◌, ◌<◌, ◌≤◌, [], ◌++◌, length, get_or, sym, refl, ap, ◌∙◌, subst, arith}
+use Rattle.std.proofs.Common.{◌≡◌, suc, ◌+◌, ◌<◌, ◌≤◌, [], ◌++◌, length, get_or, sym, refl, ap, ◌∙◌, subst, rules, arith}
 use Rattle.std.specs.List.{concat}
 use Rattle.anystr.specs.Elements.{Cut, offset}
 use Rattle.anystr.specs.Places.{part}
@@ -7,10 +7,11 @@ use Rattle.anystr.specs.Texts.{bytes_of}
 use Rattle.anystr.proofs.Boundaries.{end_on, offset-within}
 use Rattle.anystr.proofs.Parts.{concat-part}
 use Rattle.anystr.proofs.Walking.{offset-all, element_here, none_here, rest-bytes}
-use Rattle.trays.specs.Trays.{gained}
-use Rattle.cutters.proofs.Pouring.{Pouring}
+use Rattle.trays.specs.Gathers.{gathered_contents, gathered_loan, lent_tray}
+use Rattle.trays.specs.Trays.{Contents, gained}
+use Rattle.trays.specs.declared.gather.Gather.{Gather}
+use Rattle.cutters.proofs.Pouring.{Pouring, took_next}
 use Rattle.bytesinner.specs.replaces.Replacements.{copies_spread}
-use Rattle.bytesinner.proofs.joins.Joining.{took_next}
 use Rattle.bytesinner.proofs.replaces.Spreading.{spread_text-copy_count, copy_count-few}
 use Rattle.bytesinner.proofs.replaces.Turning.{to-come, all_poured, left, copy-ahead, last-copy, no-copy}
 use Rattle.bytesinner.proofs.replaces.Replacement.spread_copies.Goals as goal
@@ -29,7 +30,13 @@ pub loop-init : goal.loop-init
 loop-init g c =
     let r = c.args.self.now in
     let same = spread_text-copy_count (bytes_of g.S.AnyStr r.to) r.bound (g.S.AnyStr.elements r.text) in
-    record { place = refl; poured = to-come _ _ _ (rw c.requires.count (sym same)) c.requires.fits; same_loan = refl }
+    let begun = c.new-gather.ensures in
+    record {
+      place = refl;
+      poured = rw begun.same (to-come _ _ _ (rw c.requires.count (sym same)) c.requires.fits);
+      same_loan = begun.same_loan;
+      lent = refl;
+    }
 
 pub loop-preserved : goal.loop-preserved
 loop-preserved g c =
@@ -40,56 +47,53 @@ loop-preserved g c =
     let k = c.loop.counter in
     let lt : k < count = omega arith in
     let inv = c.loop.invariant in
-    let contents = g.T.AnyStrContainer.contents in
-    let loan = g.T.AnyStrContainer.loan in
     let later = left to es count (k + 1) in
-    let full = gained (contents c.args.tray.now) (copies_spread g.S.AnyStr r) in
+    let full = gained (g.T.AnyStrContainer.contents c.args.tray.now) (copies_spread g.S.AnyStr r) in
     let filled = g.S.AnyStr.filled r.text in
     let first = c.push_str.ensures in
     let first_loan = first.same_loan ∙ inv.same_loan in
-    let so_far : g.row.T.Denot → Type 0 = λ t. Pouring (contents t) later full × (loan t ≡ loan c.args.tray.now) in
+    let first_lent = first.lent ∙ inv.lent in
+    let so_far : Gather g.row.T.Denot g.T.AnyStrContainer → Type 0 =
+    λ t. Pouring (gathered_contents t) later full
+    × (gathered_loan t ≡ g.T.AnyStrContainer.loan c.args.tray.now) × (lent_tray t ≡ lent_tray c.new-gather.result) in
     elim c.match-element_at.branch [
       | in-Some w ↦
           let at = w.in-Some.ensures in
           let e = element_here es k c.loop.place w.in-Some.len _ filled inv.place at.element at.len in
-          let is = concat-part es _ _ _ (w.get_bytes.ensures.given e.cut) ∙ e.bytes in
           let ahead = copy-ahead to es count k lt e.within in
           let rest = get_or es k [] ++ later in
           let copied = took_next to rest _ (coded c.push_str.result) ahead inv.poured first.fills in
-          let second = w.push_str-in-Some.ensures in
-          let same = ap (λ b. b ++ later) (sym is) in
-          let both = took_next _ later _ (coded w.push_str-in-Some.result) same copied second.fills in
-          let done = subst so_far (sym w.tray-is) (both, second.same_loan ∙ first_loan) in
-          record { place = w.place-is ∙ e.next; poured = done.0; same_loan = done.1 }
+          let second = w.push_part.ensures in
+          let same = ap (λ b. b ++ later) (sym e.bytes) in
+          let both = took_next _ later _ (coded w.push_part.result) same copied second.fills in
+          let done =
+          subst so_far (sym w.gather-is) (both, second.same_loan ∙ first_loan, second.lent ∙ first_lent) in
+          record { place = w.place-is ∙ e.next; poured = done.0; same_loan = done.1; lent = done.2 }
       | in_default w ↦
           let past = none_here es k c.loop.place filled inv.place w.in_default.ensures.element in
           let few : count ≤ suc (length es) = omega (arith, c.requires.count, copy_count-few (length es) r.bound) in
           let last = last-copy to es count k lt few past in
           let copied = took_next to later _ (coded c.push_str.result) last inv.poured first.fills in
-          let done = subst so_far (sym w.tray-is) (copied, first_loan) in
+          let done = subst so_far (sym w.gather-is) (copied, first_loan, first_lent) in
           record {
             place = w.place-is ∙ (inv.place ∙ (offset-all es k past ∙ sym (offset-all es (k + 1) (omega arith))));
             poured = done.0;
             same_loan = done.1;
+            lent = done.2;
           }
     ]
 
-pub returns : goal.returns
-returns g c =
+pub returns-clause-gained : goal.returns-clause-gained
+returns-clause-gained g c =
     let r = c.args.self.now in
     let es = g.S.AnyStr.elements r.text in
     let k = c.loop.counter in
     let inv = c.loop.invariant in
-    let len = c.bytes_len.ensures in
-    let cut : Cut es c.loop.place c.bytes_len.result = record {
-      order = omega (arith, inv.place, len, offset-within es k);
-      start = (k, sym inv.place);
-      end = ((end_on es).0, (end_on es).1 ∙ sym len);
-    } in
     let from = ap (λ a. part (concat es) (a, c.bytes_len.result)) inv.place in
-    let to_end = ap (λ b. part (concat es) (offset es k, b)) len in
-    let is = concat-part es _ _ _ (c.get_bytes-2.ensures.given cut) ∙ ((from ∙ to_end) ∙ rest-bytes es k) in
+    let to_end = ap (λ b. part (concat es) (offset es k, b)) c.bytes_len.ensures in
+    let is = from ∙ (to_end ∙ rest-bytes es k) in
     let last = no-copy (bytes_of g.S.AnyStr r.to) es c.args.copies k c.loop-test.false ∙ ap (λ b. b ++ []) (sym is) in
-    let push = c.push_str-2.ensures in
-    let done = took_next _ [] _ (coded c.push_str-2.result) last inv.poured push.fills in
-    record { gained = all_poured _ _ done; same_loan = push.same_loan ∙ inv.same_loan }
+    let push = c.push_part-2.ensures in
+    let done = took_next _ [] _ (coded c.push_part-2.result) last inv.poured push.fills in
+    let all = c.finish.ensures.same ∙ all_poured _ _ done in
+    search rules
