@@ -1,4 +1,4 @@
 pub mod Partners
-pub mod Done
+pub mod Batches
 pub mod Counts
 pub mod Translated

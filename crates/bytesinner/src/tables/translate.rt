@@ -1,7 +1,8 @@
 // Texts translated by a table.
-ghost use Rattle.std.specs.Prelude.{◌≡◌, false, [], length, None, MatchResult};
+ghost use Rattle.std.specs.Prelude.{◌≡◌, ◌≤◌, false, [], length, map, take, slice_index};
+ghost use Rattle.std.specs.Prelude.{None, Ok, MatchResult};
 ghost use Rattle.anystr.specs.Bytes.{byte_list};
-ghost use Rattle.anystr.specs.Refusals.{code};
+ghost use Rattle.anystr.specs.Refusals.{code, PassesIf};
 ghost use Rattle.searchers.specs.bytesets.ByteSets.{has_byte};
 ghost use Rattle.trays.specs.Trays.{Fills};
 ghost use Rattle.bytesinner.specs.tables.Tables.{Appends};
@@ -52,6 +53,108 @@ fn kept_len(bytes: &[u8], gone: &ByteSet) -> usize
     bytes.iter().filter(|b| !gone.contains(**b)).count()
 }
 
+// Whether that many bytes are free.
+fn check_room<T: AnyStrContainer>(needed: usize, tray: &T) -> Result<(), Refusal>
+    ensures { PassesIf (needed ≤ length (T.contents tray.now).spare) (7, needed) result }
+{
+    if needed > tray.free() {
+        return Err(Refusal::TooSmall {
+            needed: needed as u64,
+        });
+    }
+    Ok(())
+}
+
+// Whether as many bytes are free as stay.
+fn check_kept<T: AnyStrContainer>(bytes: &[u8], gone: &ByteSet, tray: &T) -> Result<(), Refusal>
+    ensures { PassesIf
+        (length (kept_bytes (has_byte gone.now) bytes.now) ≤ length (T.contents tray.now).spare)
+        (7, length (kept_bytes (has_byte gone.now) bytes.now)) result }
+{
+    // where all would fit, none are counted
+    if bytes.len() <= tray.free() {
+        return Ok(());
+    }
+    check_room(kept_len(bytes, gone), tray)
+}
+
+// Maps each byte, in its place.
+fn map_all(bytes: &mut [u8], table: &[u8; BYTE_VALUES])
+    ensures { bytes.new ≡ map (slice_index table.now) bytes.old }
+{
+    for b in bytes.iter_mut() {
+        *b = table[*b as usize];
+    }
+}
+
+// Writes what the bytes that stay map to in front; how many stay.
+fn map_kept(
+    bytes: &[u8],
+    table: &[u8; BYTE_VALUES],
+    gone: &ByteSet,
+    images: &mut [u8],
+) -> usize
+    requires { length bytes.now ≤ length images.old }
+    ensures within { result ≤ length bytes.now }
+    ensures written { take result images.new
+        ≡ map (slice_index table.now) (kept_bytes (has_byte gone.now) bytes.now) }
+{
+    let mut kept = 0;
+    for b in bytes {
+        // without a branch: the image of a byte that goes is written over by the next
+        images[kept] = table[*b as usize];
+        kept += usize::from(!gone.contains(*b));
+    }
+    kept
+}
+
+// The most bytes that are mapped at once, and then pushed as one text.
+const BATCH: usize = 512;
+
+// Appends all of the bytes as the table maps them; refused where fewer are free.
+fn push_all<T: AnyStrContainer>(
+    bytes: &[u8],
+    table: &[u8; BYTE_VALUES],
+    tray: &mut T,
+) -> Result<(), Refusal>
+    ensures fills { Fills T.contents (Ok (map (slice_index table.now) bytes.now))
+        tray.old tray.new result }
+    ensures same_loan { T.loan tray.new ≡ T.loan tray.old }
+{
+    check_room(bytes.len(), tray)?;
+    // there is room for all of them, so that no push is refused
+    let mut batch = [0; BATCH];
+    for part in bytes.chunks(BATCH) {
+        let images = &mut batch[..part.len()];
+        images.copy_from_slice(part);
+        map_all(images, table);
+        let _ = tray.push_str(&Bytes::new(images));
+    }
+    Ok(())
+}
+
+// Appends those of the bytes that stay as the table maps them; refused where fewer are free.
+fn push_kept<T: AnyStrContainer>(
+    bytes: &[u8],
+    table: &[u8; BYTE_VALUES],
+    gone: &ByteSet,
+    tray: &mut T,
+) -> Result<(), Refusal>
+    ensures fills { Fills T.contents
+        (Ok (map (slice_index table.now) (kept_bytes (has_byte gone.now) bytes.now)))
+        tray.old tray.new result }
+    ensures same_loan { T.loan tray.new ≡ T.loan tray.old }
+{
+    check_kept(bytes, gone, tray)?;
+    // there is room for all that stay, so that no push is refused
+    let mut batch = [0; BATCH];
+    for part in bytes.chunks(BATCH) {
+        let kept = map_kept(part, table, gone, &mut batch);
+        let _ = tray.push_str(&Bytes::new(&batch[..kept]));
+    }
+    Ok(())
+}
+
 /// Appends the text without the bytes to delete, each other byte as the table maps it. Refused, and
 /// the tray is as it was, where the table has not exactly 256 bytes (4), and else where fewer bytes
 /// are free than stay (7, with the number of those that stay).
@@ -69,24 +172,16 @@ pub fn translate<T: AnyStrContainer>(
         Appends T.contents tray.old tray.new (Without options.entry (byte_list text.now)) result }
 {
     let (table, delete) = options.get_value()?;
+    let bytes = text.as_bytes();
+    // no byte is looked up in a list that has none
+    if delete.is_empty() {
+        return push_all(bytes, &table, tray);
+    }
     // a loop, where `ByteSet::new` would do: it shows that the list is gone over once, and not for
     // each byte
     let mut gone = ByteSet::new(&[]);
     for d in delete {
         gone.insert(*d);
     }
-    let bytes = text.as_bytes();
-    let needed = kept_len(bytes, &gone);
-    if needed > tray.free() {
-        return Err(Refusal::TooSmall {
-            needed: needed as u64,
-        });
-    }
-    // there is room for each byte that stays
-    for b in bytes {
-        if !gone.contains(*b) {
-            tray.push_str(&Bytes::new(&[table[*b as usize]]))?;
-        }
-    }
-    Ok(())
+    push_kept(bytes, &table, &gone, tray)
 }

@@ -1,0 +1,29 @@
+-- A text that is mapped and pushed batch by batch.
+use Rattle.std.proofs.Common.{◌≡◌, ℕ, ◌≤◌, Bool, not, List, ◌++◌, map, length, Ok, Result, sym, ap, ◌∙◌}
+use Rattle.std.specs.List.{concat}
+use Rattle.std.proofs.lemmas.List.{map-append}
+use Rattle.std.proofs.lemmas.List.Elements.{filter-append}
+use Rattle.anystr.specs.Limits.{most_bytes}
+use Rattle.anystr.specs.OfBytes.{singles, concat-singles}
+use Rattle.trays.specs.Trays.{Contents, IsFilled}
+use Rattle.cutters.proofs.Pouring.{Pouring}
+use Rattle.bytesinner.specs.tables.Translations.{kept_bytes}
+use Rattle.bytesinner.proofs.joins.Joining.{took_next}
+
+-- the images of what is kept of two stretches are those of the first, and then those of the second
+pub kept-append : (f : ℕ → ℕ) (gone : ℕ → Bool) (xs ys : List ℕ)
+    → map f (kept_bytes gone (xs ++ ys)) ≡ map f (kept_bytes gone xs) ++ map f (kept_bytes gone ys)
+kept-append f gone xs ys =
+    ap (map f) (filter-append (λ b. not (gone b)) xs ys) ∙ map-append f (kept_bytes gone xs) (kept_bytes gone ys)
+
+-- a push of the images of the next batch, where those of two stretches are those of the one and then those of the other
+pub batch_pushed : {X : Type 0} (images : List ℕ → List ℕ)
+    → ((xs ys : List ℕ) → images (xs ++ ys) ≡ images xs ++ images ys)
+    → (part rest batch : List ℕ) {left : List ℕ} {text : List (List ℕ)} {tray full : Contents} (tray' : Contents)
+    (r : Result X (ℕ × ℕ)) → left ≡ part ++ rest → batch ≡ images part → length batch ≤ most_bytes
+    → (length batch ≤ most_bytes → text ≡ singles batch) → Pouring tray (images left) full
+    → IsFilled (Ok (concat text)) tray tray' r → Pouring tray' (images rest) full
+batch_pushed images parts part rest batch tray' r split mapped few given poured push =
+    let sent = ap concat (given few) ∙ (concat-singles batch ∙ mapped) in
+    let next = ap images split ∙ (parts part rest ∙ ap (λ xs. xs ++ images rest) (sym sent)) in
+    took_next _ (images rest) tray' r next poured push
