@@ -1,8 +1,8 @@
 -- The result of translate: what is left of the text by the code's set of the bytes that go, and its laws.
-use Rattle.std.proofs.Common.{◌≡◌, ℕ, suc, ◌<◌, ◌≤◌, Bool, true, List, [], ◌∷◌, map, length, get_or, take, slice_index}
+use Rattle.std.proofs.Common.{◌≡◌, ℕ, suc, ◌<◌, Bool, true, false, List, [], ◌∷◌, map, get_or, slice_index}
 use Rattle.std.proofs.Common.{None, Ok, Err, Result, refl, sym, ap, ◌∙◌, ⊎_elim}
 use Rattle.std.proofs.lemmas.Bool.{cases_Bool}
-use Rattle.std.proofs.lemmas.List.{take_all, length-map, get_or-map, map-id}
+use Rattle.std.proofs.lemmas.List.{length-map, get_or-map, map-id}
 use Rattle.anystr.specs.declared.refusal.Refusal.{Refusal}
 use Rattle.searchers.specs.bytesets.Sets.{among}
 use Rattle.trays.specs.Trays.{Contents, Fills}
@@ -10,41 +10,53 @@ use Rattle.bytesinner.specs.declared.tables.translate.ByteInnerTranslateOptions.
 use Rattle.bytesinner.specs.tables.Tables.{byte_values, Appends}
 use Rattle.bytesinner.specs.tables.Translations.{image, is_full, kept_bytes, table_in, delete_in, kept_images, translate_of}
 use Rattle.bytesinner.specs.tables.Translations.{Meant, InPlace, Without}
+use Rattle.bytesinner.specs.tables.Entries.{AreEntries, image_in, is_gone_in}
 use Rattle.bytesinner.proofs.tables.Counts.{count_kept}
-
--- past the end of the delete list the set is made from the whole of it
-pub set_whole : (gone : ℕ → Bool) (delete ds : List ℕ) (at : ℕ) → length ds ≤ at
-    → ((b : ℕ) → gone b ≡ among (take at ds) b) → ds ≡ delete → (b : ℕ) → gone b ≡ among delete b
-set_whole gone delete ds at end made is b = made b ∙ ap (λ xs. among xs b) (take_all at ds end ∙ is)
+use Rattle.bytesinner.proofs.tables.Deleted.{EntriesOf, gone-is, image-is}
 
 -- where none is to go, all are kept
 kept_bytes-all : (xs : List ℕ) → kept_bytes (among []) xs ≡ xs
 kept_bytes-all [] = refl
 kept_bytes-all (x ∷ xs) = ap (λ r. x ∷ r) (kept_bytes-all xs)
 
--- maps that agree on bytes map what is kept of them alike
-map-alike : (f g : ℕ → ℕ) (gone : ℕ → Bool) (bytes : List ℕ) → ((i : ℕ) → get_or bytes i 0 < byte_values)
-    → ((b : ℕ) → b < byte_values → f b ≡ g b) → map f (kept_bytes gone bytes) ≡ map g (kept_bytes gone bytes)
-map-alike f g gone [] fit same = refl
-map-alike f g gone (x ∷ bytes) fit same =
-    let here = same x (fit 0) in
-    let later = map-alike f g gone bytes (λ i. fit (suc i)) same in
-    ⊎_elim (λ goes. rw goes later) (λ stays. rw stays (λ i. here i ∷ later i)) (cases_Bool (gone x))
+-- what agrees on bytes, of which go and of the images of those that stay, makes the same of them
+map-alike : (f g : ℕ → ℕ) (gone gone' : ℕ → Bool) (bytes : List ℕ) → ((i : ℕ) → get_or bytes i 0 < byte_values)
+    → ((b : ℕ) → b < byte_values → gone b ≡ gone' b) → ((b : ℕ) → b < byte_values → gone' b ≡ false → f b ≡ g b)
+    → map f (kept_bytes gone bytes) ≡ map g (kept_bytes gone' bytes)
+map-alike f g gone gone' [] fit go same = refl
+map-alike f g gone gone' (x ∷ bytes) fit go same =
+    let later = map-alike f g gone gone' bytes (λ i. fit (suc i)) go same in
+    let alike = go x (fit 0) in
+    ⊎_elim
+    (λ goes. let first : gone x ≡ true = alike ∙ goes in rw (first, goes) later)
+    (λ stays.
+        let first : gone x ≡ false = alike ∙ stays in
+        let here = same x (fit 0) stays in
+        rw (first, stays) (λ i. here i ∷ later i))
+    (cases_Bool (gone' x))
 
 -- what the code makes of the bytes of a text is what the options mean
 module _ (options : ByteInnerTranslateOptions) (table delete bytes text : List ℕ) (meant : Meant options table delete)
     (fit : (i : ℕ) → get_or bytes i 0 < byte_values) (is : bytes ≡ text) where
-  pub images-kept : (gone : ℕ → Bool) → ((b : ℕ) → gone b ≡ among delete b)
-      → map (slice_index table) (kept_bytes gone bytes) ≡ kept_images options text
-  images-kept gone set =
-      let f = image (table_in options) in
-      let same : (b : ℕ) → gone b ≡ among (delete_in options) b = λ b. set b ∙ ap (λ ds. among ds b) meant.goes in
-      map-alike (slice_index table) f gone bytes fit meant.maps ∙ (λ i. map f (kept_bytes (λ b. same b i) (is i)))
+  all-kept : map (image (table_in options)) (kept_bytes (among delete) bytes) ≡ kept_images options text
+  all-kept = λ i. map (image (table_in options)) (kept_bytes (among (meant.goes i)) (is i))
 
+  -- where none is deleted
   pub images-all : delete ≡ [] → map (slice_index table) bytes ≡ kept_images options text
   images-all none =
       let all : kept_bytes (among delete) bytes ≡ bytes = rw none (kept_bytes-all bytes) in
-      ap (map (slice_index table)) (sym all) ∙ images-kept (among delete) (λ b. refl)
+      let f = image (table_in options) in
+      let same : (b : ℕ) → b < byte_values → among delete b ≡ false → slice_index table b ≡ f b = λ b h _. meant.maps b h in
+      let gone = among delete in
+      ap (map (slice_index table)) (sym all) ∙ (map-alike _ f gone gone bytes fit (λ b h. refl) same ∙ all-kept)
+
+  -- by the entries
+  pub images-kept : (entries : List ℕ) → EntriesOf entries (image (table_in options)) delete → AreEntries entries
+      → map (image_in entries) (kept_bytes (is_gone_in entries) bytes) ≡ kept_images options text
+  images-kept entries made small =
+      let f = image (table_in options) in
+      let go = gone-is entries f delete made small in
+      map-alike _ f (is_gone_in entries) (among delete) bytes fit go (image-is entries f delete made small) ∙ all-kept
 
 -- where no byte is deleted each stands in its place
 pub undeleted : (options : ByteInnerTranslateOptions) (text : List ℕ) → delete_in options ≡ []

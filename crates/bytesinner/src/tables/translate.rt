@@ -1,20 +1,21 @@
 // Texts translated by a table.
-ghost use Rattle.std.specs.Prelude.{◌≡◌, ◌≤◌, false, [], length, map, take, slice_index};
+ghost use Rattle.std.specs.Prelude.{◌≡◌, ◌≤◌, false, [], length, map, slice_index};
 ghost use Rattle.std.specs.Prelude.{None, Ok, MatchResult};
 ghost use Rattle.anystr.specs.Bytes.{byte_list};
 ghost use Rattle.anystr.specs.Refusals.{code, PassesIf};
-ghost use Rattle.searchers.specs.bytesets.ByteSets.{has_byte};
 ghost use Rattle.trays.specs.Trays.{Fills};
 ghost use Rattle.bytesinner.specs.tables.Tables.{Appends};
+ghost use Rattle.bytesinner.specs.tables.Entries.{image_in, is_gone_in};
 ghost use Rattle.bytesinner.specs.tables.Translations.{is_full, kept_bytes, table_in, delete_in};
 ghost use Rattle.bytesinner.specs.tables.Translations.{translate_of, Meant, InPlace, Without};
 
+use super::entries::Entries;
 use super::identity::identity;
 use anystr::anystr::AnyStr;
 use anystr::bytes::Bytes;
 use anystr::optional::OptionalArg;
 use anystr::refusal::Refusal;
-use searchers::bytesets::byteset::{BYTE_VALUES, ByteSet};
+use searchers::bytesets::byteset::BYTE_VALUES;
 use trays::container::AnyStrContainer;
 
 /// What a text is translated by: a table of 256 bytes, and the bytes to delete. Either may be left
@@ -46,13 +47,6 @@ impl<'a> ByteInnerTranslateOptions<'a> {
     }
 }
 
-// How many of the bytes stay.
-fn kept_len(bytes: &[u8], gone: &ByteSet) -> usize
-    ensures { result ≡ length (kept_bytes (has_byte gone.now) bytes.now) }
-{
-    bytes.iter().filter(|b| !gone.contains(**b)).count()
-}
-
 // Whether that many bytes are free.
 fn check_room<T: AnyStrContainer>(needed: usize, tray: &T) -> Result<(), Refusal>
     ensures { PassesIf (needed ≤ length (T.contents tray.now).spare) (7, needed) result }
@@ -66,20 +60,24 @@ fn check_room<T: AnyStrContainer>(needed: usize, tray: &T) -> Result<(), Refusal
 }
 
 // Whether as many bytes are free as stay.
-fn check_kept<T: AnyStrContainer>(bytes: &[u8], gone: &ByteSet, tray: &T) -> Result<(), Refusal>
-    ensures { PassesIf
-        (length (kept_bytes (has_byte gone.now) bytes.now) ≤ length (T.contents tray.now).spare)
-        (7, length (kept_bytes (has_byte gone.now) bytes.now)) result }
+fn check_kept<T: AnyStrContainer>(
+    bytes: &[u8],
+    entries: &Entries,
+    tray: &T,
+) -> Result<(), Refusal>
+    ensures { PassesIf (length (kept_bytes (is_gone_in entries.now.entries) bytes.now)
+        ≤ length (T.contents tray.now).spare)
+        (7, length (kept_bytes (is_gone_in entries.now.entries) bytes.now)) result }
 {
     // where all would fit, none are counted
     if bytes.len() <= tray.free() {
         return Ok(());
     }
-    check_room(kept_len(bytes, gone), tray)
+    check_room(entries.kept_len(bytes), tray)
 }
 
 // Maps each byte, in its place.
-fn map_all(bytes: &mut [u8], table: &[u8; BYTE_VALUES])
+fn map_each(bytes: &mut [u8], table: &[u8; BYTE_VALUES])
     ensures { bytes.new ≡ map (slice_index table.now) bytes.old }
 {
     for b in bytes.iter_mut() {
@@ -87,25 +85,19 @@ fn map_all(bytes: &mut [u8], table: &[u8; BYTE_VALUES])
     }
 }
 
-// Writes what the bytes that stay map to in front; how many stay.
-fn map_kept(
-    bytes: &[u8],
-    table: &[u8; BYTE_VALUES],
-    gone: &ByteSet,
-    images: &mut [u8],
-) -> usize
-    requires { length bytes.now ≤ length images.old }
-    ensures within { result ≤ length bytes.now }
-    ensures written { take result images.new
-        ≡ map (slice_index table.now) (kept_bytes (has_byte gone.now) bytes.now) }
+// The bytes that are mapped without a test between them.
+const WORD: usize = 8;
+
+// The same, word by word.
+fn map_words(bytes: &mut [u8], table: &[u8; BYTE_VALUES])
+    ensures { bytes.new ≡ map (slice_index table.now) bytes.old }
 {
-    let mut kept = 0;
-    for b in bytes {
-        // without a branch: the image of a byte that goes is written over by the next
-        images[kept] = table[*b as usize];
-        kept += usize::from(!gone.contains(*b));
+    if bytes.len() < WORD {
+        return map_each(bytes, table);
     }
-    kept
+    let (word, rest) = bytes.split_at_mut(WORD);
+    map_each(word, table);
+    map_words(rest, table);
 }
 
 // The most bytes that are mapped at once, and then pushed as one text.
@@ -127,29 +119,27 @@ fn push_all<T: AnyStrContainer>(
     for part in bytes.chunks(BATCH) {
         let images = &mut batch[..part.len()];
         images.copy_from_slice(part);
-        map_all(images, table);
+        map_words(images, table);
         let _ = tray.push_str(&Bytes::new(images));
     }
     Ok(())
 }
 
-// Appends those of the bytes that stay as the table maps them; refused where fewer are free.
+// Appends the images of those of the bytes that stay; refused where fewer are free.
 fn push_kept<T: AnyStrContainer>(
     bytes: &[u8],
-    table: &[u8; BYTE_VALUES],
-    gone: &ByteSet,
+    entries: &Entries,
     tray: &mut T,
 ) -> Result<(), Refusal>
-    ensures fills { Fills T.contents
-        (Ok (map (slice_index table.now) (kept_bytes (has_byte gone.now) bytes.now)))
-        tray.old tray.new result }
+    ensures fills { Fills T.contents (Ok (map (image_in entries.now.entries)
+        (kept_bytes (is_gone_in entries.now.entries) bytes.now))) tray.old tray.new result }
     ensures same_loan { T.loan tray.new ≡ T.loan tray.old }
 {
-    check_kept(bytes, gone, tray)?;
+    check_kept(bytes, entries, tray)?;
     // there is room for all that stay, so that no push is refused
     let mut batch = [0; BATCH];
     for part in bytes.chunks(BATCH) {
-        let kept = map_kept(part, table, gone, &mut batch);
+        let kept = entries.map_kept(part, &mut batch);
         let _ = tray.push_str(&Bytes::new(&batch[..kept]));
     }
     Ok(())
@@ -177,11 +167,9 @@ pub fn translate<T: AnyStrContainer>(
     if delete.is_empty() {
         return push_all(bytes, &table, tray);
     }
-    // a loop, where `ByteSet::new` would do: it shows that the list is gone over once, and not for
-    // each byte
-    let mut gone = ByteSet::new(&[]);
+    let mut entries = Entries::new(&table);
     for d in delete {
-        gone.insert(*d);
+        entries.delete(*d);
     }
-    push_kept(bytes, &table, &gone, tray)
+    push_kept(bytes, &entries, tray)
 }

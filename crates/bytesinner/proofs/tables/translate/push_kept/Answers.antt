@@ -1,15 +1,15 @@
-use Rattle.std.proofs.Common.{◌≤◌, map, take, slice_index, length, ◌∙◌, arith, length-take}
-use Rattle.searchers.specs.bytesets.ByteSets.{has_byte}
+use Rattle.std.proofs.Common.{◌≤◌, map, take, length, ◌∙◌, arith, length-take}
 use Rattle.anystr.specs.Limits.{most_bytes}
 use Rattle.anystr.specs.Refusals.{coded}
+use Rattle.bytesinner.specs.tables.Entries.{image_in, is_gone_in}
 use Rattle.bytesinner.specs.tables.Translations.{kept_bytes}
 use Rattle.bytesinner.proofs.tables.Batches.{kept-append, batch_pushed}
 use Rattle.bytesinner.proofs.tables.translate.push_kept.Goals as goal
 
 pub loop-part-preserved : goal.loop-part-preserved
 loop-part-preserved g c =
-    let f = slice_index c.args.table.now in
-    let gone = has_byte c.args.gone.now in
+    let f = image_in c.args.entries.now.entries in
+    let gone = is_gone_in c.args.entries.now.entries in
     let inv = c.loop-part.invariant in
     let steps = c.in-Some.ensures.steps in
     let part = c.in-Some.part.now in

@@ -1,5 +1,5 @@
 use Rattle.std.proofs.Common.{◌≡◌, ◌++◌, map, take, drop, slice_index}
-use Rattle.bytesinner.proofs.tables.translate.map_all.Given as goal
+use Rattle.bytesinner.proofs.tables.translate.map_each.Given as goal
 
 -- the bytes so far are mapped, and the others are as they were
 abbrev pub invariant-loop-b : goal.invariant-loop-b

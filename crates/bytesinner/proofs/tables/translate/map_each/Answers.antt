@@ -1,7 +1,7 @@
 use Rattle.std.proofs.Common.{get_or, slice_index, arith}
 use Rattle.std.proofs.lemmas.List.{get_or_default}
 use Rattle.std.proofs.lemmas.List.Edits.{map_over_more}
-use Rattle.bytesinner.proofs.tables.translate.map_all.Goals as goal
+use Rattle.bytesinner.proofs.tables.translate.map_each.Goals as goal
 
 pub loop-b-preserved : goal.loop-b-preserved
 loop-b-preserved c =
