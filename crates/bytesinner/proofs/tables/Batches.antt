@@ -1,5 +1,5 @@
 -- A text that is mapped and pushed batch by batch.
-use Rattle.std.proofs.Common.{◌≡◌, ℕ, ◌≤◌, Bool, not, List, ◌++◌, map, length, Ok, Result, sym, ap, ◌∙◌}
+use Rattle.std.proofs.Common.{◌≡◌, ℕ, ◌≤◌, not, List, ◌++◌, map, length, Ok, Result, sym, ap, ◌∙◌}
 use Rattle.std.specs.List.{concat}
 use Rattle.std.proofs.lemmas.List.{map-append}
 use Rattle.std.proofs.lemmas.List.Elements.{filter-append}
@@ -7,16 +7,18 @@ use Rattle.anystr.specs.Limits.{most_bytes}
 use Rattle.anystr.specs.OfBytes.{singles, concat-singles}
 use Rattle.trays.specs.Trays.{Contents, IsFilled}
 use Rattle.cutters.proofs.Pouring.{Pouring}
+use Rattle.bytesinner.specs.tables.Entries.{image_in, is_gone_in, images_in}
 use Rattle.bytesinner.specs.tables.Translations.{kept_bytes}
 use Rattle.bytesinner.proofs.joins.Joining.{took_next}
 
--- the images of what is kept of two stretches are those of the first, and then those of the second
-pub kept-append : (f : ℕ → ℕ) (gone : ℕ → Bool) (xs ys : List ℕ)
-    → map f (kept_bytes gone (xs ++ ys)) ≡ map f (kept_bytes gone xs) ++ map f (kept_bytes gone ys)
-kept-append f gone xs ys =
-    ap (map f) (filter-append (λ b. not (gone b)) xs ys) ∙ map-append f (kept_bytes gone xs) (kept_bytes gone ys)
+-- the images of two stretches are those of the one and then those of the other
+pub images_in-append : (cells xs ys : List ℕ) → images_in cells (xs ++ ys) ≡ images_in cells xs ++ images_in cells ys
+images_in-append cells xs ys =
+    let gone = is_gone_in cells in
+    ap (map (image_in cells)) (filter-append (λ b. not (gone b)) xs ys)
+    ∙ map-append (image_in cells) (kept_bytes gone xs) (kept_bytes gone ys)
 
--- a push of the images of the next batch, where those of two stretches are those of the one and then those of the other
+-- a push of the images of the next part, where those of two stretches are so
 pub batch_pushed : {X : Type 0} (images : List ℕ → List ℕ)
     → ((xs ys : List ℕ) → images (xs ++ ys) ≡ images xs ++ images ys)
     → (part rest batch : List ℕ) {left : List ℕ} {text : List (List ℕ)} {tray full : Contents} (tray' : Contents)

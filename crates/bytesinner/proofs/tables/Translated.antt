@@ -1,16 +1,15 @@
--- The result of translate: what is left of the text by the code's set of the bytes that go, and its laws.
+-- The result of translate: what is made of the text by the table or the entries, and its laws.
 use Rattle.std.proofs.Common.{◌≡◌, ℕ, suc, ◌<◌, Bool, true, false, List, [], ◌∷◌, map, get_or, slice_index}
-use Rattle.std.proofs.Common.{None, Ok, Err, Result, refl, sym, ap, ◌∙◌, ⊎_elim}
-use Rattle.std.proofs.lemmas.Bool.{cases_Bool}
+use Rattle.std.proofs.Common.{None, Ok, Err, Result, refl, sym, ap, ◌∙◌, arith}
 use Rattle.std.proofs.lemmas.List.{length-map, get_or-map, map-id}
 use Rattle.anystr.specs.declared.refusal.Refusal.{Refusal}
 use Rattle.searchers.specs.bytesets.Sets.{among}
 use Rattle.trays.specs.Trays.{Contents, Fills}
 use Rattle.bytesinner.specs.declared.tables.translate.ByteInnerTranslateOptions.{ByteInnerTranslateOptions}
 use Rattle.bytesinner.specs.tables.Tables.{byte_values, Appends}
-use Rattle.bytesinner.specs.tables.Translations.{image, is_full, kept_bytes, table_in, delete_in, kept_images, translate_of}
-use Rattle.bytesinner.specs.tables.Translations.{Meant, InPlace, Without}
-use Rattle.bytesinner.specs.tables.Entries.{AreEntries, image_in, is_gone_in}
+use Rattle.bytesinner.specs.tables.Translations.{image, is_full, kept_bytes, table_in, delete_in, kept_images}
+use Rattle.bytesinner.specs.tables.Translations.{translate_of, Meant, InPlace, Without}
+use Rattle.bytesinner.specs.tables.Entries.{AreEntries, is_gone_in, images_in}
 use Rattle.bytesinner.proofs.tables.Counts.{count_kept}
 use Rattle.bytesinner.proofs.tables.Deleted.{EntriesOf, gone-is, image-is}
 
@@ -25,15 +24,7 @@ map-alike : (f g : ℕ → ℕ) (gone gone' : ℕ → Bool) (bytes : List ℕ) �
     → map f (kept_bytes gone bytes) ≡ map g (kept_bytes gone' bytes)
 map-alike f g gone gone' [] fit go same = refl
 map-alike f g gone gone' (x ∷ bytes) fit go same =
-    let later = map-alike f g gone gone' bytes (λ i. fit (suc i)) go same in
-    let alike = go x (fit 0) in
-    ⊎_elim
-    (λ goes. let first : gone x ≡ true = alike ∙ goes in rw (first, goes) later)
-    (λ stays.
-        let first : gone x ≡ false = alike ∙ stays in
-        let here = same x (fit 0) stays in
-        rw (first, stays) (λ i. here i ∷ later i))
-    (cases_Bool (gone' x))
+    grind (arith, map-alike f g gone gone' bytes (λ i. fit (suc i)) go same, go x (fit 0), same x (fit 0))
 
 -- what the code makes of the bytes of a text is what the options mean
 module _ (options : ByteInnerTranslateOptions) (table delete bytes text : List ℕ) (meant : Meant options table delete)
@@ -45,14 +36,13 @@ module _ (options : ByteInnerTranslateOptions) (table delete bytes text : List �
   pub images-all : delete ≡ [] → map (slice_index table) bytes ≡ kept_images options text
   images-all none =
       let all : kept_bytes (among delete) bytes ≡ bytes = rw none (kept_bytes-all bytes) in
-      let f = image (table_in options) in
-      let same : (b : ℕ) → b < byte_values → among delete b ≡ false → slice_index table b ≡ f b = λ b h _. meant.maps b h in
       let gone = among delete in
-      ap (map (slice_index table)) (sym all) ∙ (map-alike _ f gone gone bytes fit (λ b h. refl) same ∙ all-kept)
+      let same = map-alike _ _ gone gone bytes fit (λ b h. refl) (λ b h _. meant.maps b h) in
+      ap (map (slice_index table)) (sym all) ∙ (same ∙ all-kept)
 
   -- by the entries
   pub images-kept : (entries : List ℕ) → EntriesOf entries (image (table_in options)) delete → AreEntries entries
-      → map (image_in entries) (kept_bytes (is_gone_in entries) bytes) ≡ kept_images options text
+      → images_in entries bytes ≡ kept_images options text
   images-kept entries made small =
       let f = image (table_in options) in
       let go = gone-is entries f delete made small in

@@ -1,9 +1,8 @@
 // What becomes of each byte when some are deleted and the others mapped.
-ghost use Rattle.std.specs.Prelude.{◌≡◌, ℕ, ◌+◌, ◌<◌, ◌≤◌, if◌then◌else◌, length, map, take};
+ghost use Rattle.std.specs.Prelude.{◌≡◌, ℕ, ◌+◌, ◌<◌, ◌≤◌, if◌then◌else◌, length, take};
 ghost use Rattle.std.specs.Prelude.{slice_index, slice_set};
 ghost use Rattle.bytesinner.specs.tables.Tables.{byte_values};
-ghost use Rattle.bytesinner.specs.tables.Translations.{kept_bytes};
-ghost use Rattle.bytesinner.specs.tables.Entries.{AreEntries, image_in, is_gone_in};
+ghost use Rattle.bytesinner.specs.tables.Entries.{AreEntries, image_in, is_gone_in, images_in};
 
 use searchers::bytesets::byteset::BYTE_VALUES;
 
@@ -13,42 +12,42 @@ const STAYS: u16 = BYTE_VALUES as u16;
 // An entry for each byte: its image, and `STAYS` more where the byte stays. One look-up tells both.
 #[derive(Drop)]
 pub(super) struct Entries {
-    entries: [u16; BYTE_VALUES],
-    ghost small: { AreEntries entries },
+    cells: [u16; BYTE_VALUES],
+    ghost small: { AreEntries cells },
 }
 
 impl Entries {
     // Each byte stays, with the table's image.
     pub(super) fn new(table: &[u8; BYTE_VALUES]) -> Entries
         ensures { (b : ℕ) → b < byte_values
-            → slice_index result.entries b ≡ byte_values + slice_index table.now b }
+            → slice_index result.cells b ≡ byte_values + slice_index table.now b }
     {
-        let mut entries = [0; BYTE_VALUES];
+        let mut cells = [0; BYTE_VALUES];
         for (b, image) in table.iter().enumerate() {
-            entries[b] = STAYS + u16::from(*image);
+            cells[b] = STAYS + u16::from(*image);
         }
-        Entries { entries }
+        Entries { cells }
     }
 
     // The byte goes.
     pub(super) fn delete(&mut self, byte: u8)
-        ensures { self.new.entries ≡ slice_set self.old.entries byte 0 }
+        ensures { self.new.cells ≡ slice_set self.old.cells byte 0 }
     {
-        self.entries[byte as usize] = 0;
+        self.cells[byte as usize] = 0;
     }
 
     // The byte's image, and how many bytes come of it: 1, or 0 where it goes.
     fn get(&self, byte: u8) -> (u8, usize)
-        ensures image { result.0 ≡ image_in self.now.entries byte }
-        ensures count { result.1 ≡ (if is_gone_in self.now.entries byte then 0 else 1) }
+        ensures image { result.0 ≡ image_in self.now.cells byte }
+        ensures count { result.1 ≡ (if is_gone_in self.now.cells byte then 0 else 1) }
     {
-        let entry = self.entries[byte as usize];
+        let entry = self.cells[byte as usize];
         ((entry % STAYS) as u8, usize::from(entry / STAYS))
     }
 
     // How many of the bytes stay.
     pub(super) fn kept_len(&self, bytes: &[u8]) -> usize
-        ensures { result ≡ length (kept_bytes (is_gone_in self.now.entries) bytes.now) }
+        ensures { result ≡ length (images_in self.now.cells bytes.now) }
     {
         let mut kept = 0;
         for b in bytes {
@@ -62,8 +61,7 @@ impl Entries {
     pub(super) fn map_kept(&self, bytes: &[u8], images: &mut [u8]) -> usize
         requires { length bytes.now ≤ length images.old }
         ensures within { result ≤ length bytes.now }
-        ensures written { take result images.new ≡ map (image_in self.now.entries)
-            (kept_bytes (is_gone_in self.now.entries) bytes.now) }
+        ensures written { take result images.new ≡ images_in self.now.cells bytes.now }
     {
         let mut kept = 0;
         for b in bytes {

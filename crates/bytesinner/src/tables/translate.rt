@@ -5,8 +5,8 @@ ghost use Rattle.anystr.specs.Bytes.{byte_list};
 ghost use Rattle.anystr.specs.Refusals.{code, PassesIf};
 ghost use Rattle.trays.specs.Trays.{Fills};
 ghost use Rattle.bytesinner.specs.tables.Tables.{Appends};
-ghost use Rattle.bytesinner.specs.tables.Entries.{image_in, is_gone_in};
-ghost use Rattle.bytesinner.specs.tables.Translations.{is_full, kept_bytes, table_in, delete_in};
+ghost use Rattle.bytesinner.specs.tables.Entries.{images_in};
+ghost use Rattle.bytesinner.specs.tables.Translations.{is_full, table_in, delete_in};
 ghost use Rattle.bytesinner.specs.tables.Translations.{translate_of, Meant, InPlace, Without};
 
 use super::entries::Entries;
@@ -60,14 +60,10 @@ fn check_room<T: AnyStrContainer>(needed: usize, tray: &T) -> Result<(), Refusal
 }
 
 // Whether as many bytes are free as stay.
-fn check_kept<T: AnyStrContainer>(
-    bytes: &[u8],
-    entries: &Entries,
-    tray: &T,
-) -> Result<(), Refusal>
-    ensures { PassesIf (length (kept_bytes (is_gone_in entries.now.entries) bytes.now)
-        ≤ length (T.contents tray.now).spare)
-        (7, length (kept_bytes (is_gone_in entries.now.entries) bytes.now)) result }
+fn check_kept<T: AnyStrContainer>(bytes: &[u8], entries: &Entries, tray: &T) -> Result<(), Refusal>
+    ensures { PassesIf
+        (length (images_in entries.now.cells bytes.now) ≤ length (T.contents tray.now).spare)
+        (7, length (images_in entries.now.cells bytes.now)) result }
 {
     // where all would fit, none are counted
     if bytes.len() <= tray.free() {
@@ -85,10 +81,10 @@ fn map_each(bytes: &mut [u8], table: &[u8; BYTE_VALUES])
     }
 }
 
-// The bytes that are mapped without a test between them.
+// How many bytes are mapped with no test between them.
 const WORD: usize = 8;
 
-// The same, word by word.
+// The same, word by word. It is called on a batch at most, so it does not go deep.
 fn map_words(bytes: &mut [u8], table: &[u8; BYTE_VALUES])
     ensures { bytes.new ≡ map (slice_index table.now) bytes.old }
 {
@@ -100,7 +96,7 @@ fn map_words(bytes: &mut [u8], table: &[u8; BYTE_VALUES])
     map_words(rest, table);
 }
 
-// The most bytes that are mapped at once, and then pushed as one text.
+// The most bytes that are mapped before they are pushed as one text.
 const BATCH: usize = 512;
 
 // Appends all of the bytes as the table maps them; refused where fewer are free.
@@ -131,8 +127,8 @@ fn push_kept<T: AnyStrContainer>(
     entries: &Entries,
     tray: &mut T,
 ) -> Result<(), Refusal>
-    ensures fills { Fills T.contents (Ok (map (image_in entries.now.entries)
-        (kept_bytes (is_gone_in entries.now.entries) bytes.now))) tray.old tray.new result }
+    ensures fills { Fills T.contents (Ok (images_in entries.now.cells bytes.now))
+        tray.old tray.new result }
     ensures same_loan { T.loan tray.new ≡ T.loan tray.old }
 {
     check_kept(bytes, entries, tray)?;
@@ -163,10 +159,11 @@ pub fn translate<T: AnyStrContainer>(
 {
     let (table, delete) = options.get_value()?;
     let bytes = text.as_bytes();
-    // no byte is looked up in a list that has none
+    // no byte is looked up in a list of none
     if delete.is_empty() {
         return push_all(bytes, &table, tray);
     }
+    // the list is gone over once, and not for each byte of the text
     let mut entries = Entries::new(&table);
     for d in delete {
         entries.delete(*d);

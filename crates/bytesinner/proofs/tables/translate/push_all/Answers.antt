@@ -12,13 +12,13 @@ loop-part-preserved g c =
     let steps = c.in-Some.ensures.steps in
     let part = c.in-Some.part.now in
     let mapped = c.map_words.ensures ∙ ap (map f) c.copy_from_slice.ensures.after in
-    let few : length c.map_words.new.bytes ≤ most_bytes = omega (arith, ap length mapped, length-map part f, steps.1.1, inv.size) in
+    let images = c.map_words.new.bytes in
+    let few : length images ≤ most_bytes =
+    omega (arith, ap length mapped, length-map part f, steps.1.1, inv.size) in
     let push = c.push_str.ensures in
     record {
-      can_next = omega (arith, inv.can_next, steps.0);
-      finite = tt;
       size = steps.0 ∙ inv.size;
-      poured = batch_pushed (map f) (map-append f) part _ c.map_words.new.bytes _ (coded c.push_str.result) steps.1.0 mapped
-          few c.new.ensures.given inv.poured push.fills;
+      poured = batch_pushed (map f) (map-append f) part _ images _ (coded c.push_str.result) steps.1.0 mapped few
+          c.new.ensures.given inv.poured push.fills;
       same_loan = push.same_loan ∙ inv.same_loan;
     }

@@ -7,8 +7,6 @@ use Rattle.bytesinner.proofs.tables.translate.push_all.Given as goal
 -- with what the bytes left map to the tray holds the images of all
 abbrev pub invariant-loop-part : goal.invariant-loop-part
 invariant-loop-part g l = record {
-  can_next : (goal.iterator-loop-part g).can_next l.part-iterator;
-  finite : (goal.iterator-loop-part g).is_finite l.part-iterator;
   size : chunks_size l.part-iterator ≡ 512;
   poured : Pouring (g.T.AnyStrContainer.contents l.tray)
       (map (slice_index l.table) (chunks_rest l.part-iterator))

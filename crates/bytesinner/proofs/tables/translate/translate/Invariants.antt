@@ -5,4 +5,4 @@ use Rattle.bytesinner.proofs.tables.translate.translate.Given as goal
 
 -- each byte has the entry of its image, and of the bytes so far of one that goes
 abbrev pub invariant-loop-d : goal.invariant-loop-d
-invariant-loop-d g l = EntriesOf l.entries.entries (image (table_in l.options)) (take l.d-index l.delete)
+invariant-loop-d g l = EntriesOf l.entries.cells (image (table_in l.options)) (take l.d-index l.delete)

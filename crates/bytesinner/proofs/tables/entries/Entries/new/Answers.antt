@@ -5,9 +5,12 @@ use Rattle.bytesinner.proofs.tables.entries.Entries.new.Goals as goal
 
 pub loop-b-preserved : goal.loop-b-preserved
 loop-b-preserved c =
-    let entries = c.loop-b.entries in
+    let cells = c.loop-b.cells in
     let inv = c.loop-b.invariant in
     let b = c.loop-b.b in
     let entry : ℕ → ℕ = λ k. byte_values + slice_index c.args.table.now k in
     let here : byte_values + c.from.result ≡ entry b = omega arith in
-    record { long = length-set entries b _ ∙ inv.long; made = rw here (fill_by_more entry entries b 0 (omega arith) inv.made) }
+    record {
+      long = length-set cells b _ ∙ inv.long;
+      made = rw here (fill_by_more entry cells b 0 (omega arith) inv.made);
+    }

@@ -5,6 +5,6 @@ use Rattle.bytesinner.proofs.tables.entries.Entries.new.Given as goal
 -- the entries so far are those of bytes that stay
 abbrev pub invariant-loop-b : goal.invariant-loop-b
 invariant-loop-b l = record {
-  long : length l.entries ≡ byte_values;
-  made : (k : ℕ) → k < l.b → slice_index l.entries k ≡ byte_values + slice_index l.table k;
+  long : length l.cells ≡ byte_values;
+  made : (k : ℕ) → k < l.b → slice_index l.cells k ≡ byte_values + slice_index l.table k;
 }
