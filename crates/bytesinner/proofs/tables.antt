@@ -1,4 +1,5 @@
 pub mod Partners
-pub mod Done
+pub mod Batches
+pub mod Deleted
 pub mod Counts
 pub mod Translated

@@ -1,3 +1,4 @@
 pub mod Tables
 pub mod Maketrans
 pub mod Translations
+pub mod Entries
