@@ -34,10 +34,7 @@ fn read_turns(words: &[String]) -> Result<Option<u32>, Trouble> {
     let Some(word) = words.get(1) else {
         return Ok(None);
     };
-    match word.as_str().parse::<u32>() {
-        Ok(turns) => Ok(Some(turns)),
-        Err(_) => Err(Trouble::NoTurns),
-    }
+    Ok(Some(word.as_str().parse::<u32>()?))
 }
 
 fn read_sheet(rt: &HostRuntime) -> io::Result<Vec<u8>> {
