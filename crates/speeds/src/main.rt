@@ -8,6 +8,7 @@ mod rows;
 mod trouble;
 mod turns;
 
+use anystr::bytes::Bytes;
 use call::Call;
 use rows::ROWS;
 use std::env;
@@ -46,6 +47,7 @@ fn run(rt: &HostRuntime) -> Result<(), Trouble> {
     let turns = read_turns(words.as_slice())?;
     let mut sheet = Vec::new(rt.alloc());
     rt.stdin().read_to_end(&mut sheet)?;
+    Bytes::check(sheet.as_slice())?;
     let mut out = BufWriter::new(rt.alloc(), rt.stdout())?;
     if words.len() > 2 {
         for row in words.iter().skip(2) {
