@@ -27,17 +27,20 @@ abbrev pub rsplits_of : List ℕ → Option (List ℕ) → ℤ → Result (List 
 rsplits_of bytes (Some sep) maxsplit = rsplit_of bytes sep maxsplit
 rsplits_of bytes None maxsplit = Ok (rwords_of bytes maxsplit)
 
+-- What a list of words keeps, from either end: the words are the text's runs, and the places can be cut out of a text
+-- that keeps bytes below 128 apart.
+abbrev pub WordsLaw : List (List ℕ) → List Place → Result ℕ Refusal → Type 0
+WordsLaw es list' r = AllRuns (concat es) (runs (concat es)) × (AsciiApart es → OfWritten (Cuttable es) list' r)
+
 -- What split and rsplit keep besides the list. At a separator, the places lie between the occurrences that the rule
--- cuts, are joined to the text again, and can be cut out of it. At whitespace, the words are the text's runs, and the
--- places can be cut out of a text that keeps bytes below 128 apart.
+-- cuts, are joined to the text again, and can be cut out of it. At whitespace, it is the law of the words.
 abbrev pub SplitsLaw : ((bytes sep : List ℕ) → ℤ → List Span → Type 0) → List (List ℕ) → Option (List ℕ) → ℤ
     → List Place → Result ℕ Refusal → Type 0
 SplitsLaw Split es (Some sep) maxsplit list' r =
     OfWritten (Split (concat es) sep maxsplit) list' r
     × OfWritten (Restore (concat es) sep) list' r
     × OfWritten (Cuttable es) list' r
-SplitsLaw Split es None maxsplit list' r =
-    AllRuns (concat es) (runs (concat es)) × (AsciiApart es → OfWritten (Cuttable es) list' r)
+SplitsLaw Split es None maxsplit list' r = WordsLaw es list' r
 
 -- the law of split: its rule cuts from the front
 abbrev pub SplitLaw : List (List ℕ) → Option (List ℕ) → ℤ → List Place → Result ℕ Refusal → Type 0

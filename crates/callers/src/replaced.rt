@@ -12,8 +12,8 @@ use bytesinner::replace;
 use trays::buffer::Buffer;
 
 /// Writes the row with `to` in place of each `from` at the start of the page; what is not written
-/// on stays. Refused (7, with the bytes needed) where the page is too short, and then all of it is
-/// as it was.
+/// on stays. Refused where `replace` refuses a result of that length (5), and else where the page
+/// is too short (7, with the bytes needed), and then all of it is as it was.
 pub fn replaced_onto<S: AnyStr>(row: &S, from: &S, to: &S, page: &mut [u8]) -> Result<(), Refusal>
     ensures { IsOverwritten (replace_of (S.elements row.now) (bytes_of S.AnyStr from.now)
         (bytes_of S.AnyStr to.now) unbounded) page.old page.new result }

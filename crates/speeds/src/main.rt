@@ -8,42 +8,21 @@ mod rows;
 mod trouble;
 mod turns;
 
-use anystr::anystr::MAX_BYTES;
+use anystr::bytes::Bytes;
 use call::Call;
 use rows::ROWS;
-use std::env::{Env, FillError};
+use std::env;
 use std::io::{BufWriter, Read, Write};
 use std::process::ExitCode;
-use std::{env, io};
 use trouble::Trouble;
 use turns::take_turns;
-
-// One byte more than a sheet may have tells that there are too many.
-const READ_AT_MOST: u64 = MAX_BYTES as u64 + 1;
-
-// The words, the program's name first; none at all where only the name was given, which need not be text.
-fn read_words(rt: &HostRuntime) -> io::Result<Vec<String>> {
-    if let Err(FillError::NotPresent) = rt.arg(1, &mut []) {
-        return Ok(Vec::new(rt.alloc()));
-    }
-    Ok(env::args(rt)?.collect(rt.alloc())?)
-}
 
 // How many turns the words ask to be timed; none where they ask for no times.
 fn read_turns(words: &[String]) -> Result<Option<u32>, Trouble> {
     let Some(word) = words.get(1) else {
         return Ok(None);
     };
-    match word.as_str().parse::<u32>() {
-        Ok(turns) => Ok(Some(turns)),
-        Err(_) => Err(Trouble::NoTurns),
-    }
-}
-
-fn read_sheet(rt: &HostRuntime) -> io::Result<Vec<u8>> {
-    let mut bytes = Vec::new(rt.alloc());
-    rt.stdin().take(READ_AT_MOST).read_to_end(&mut bytes)?;
-    Ok(bytes)
+    Ok(Some(word.as_str().parse::<u32>()?))
 }
 
 // Writes what the row's call gives; and on the standard error, where turns are timed, the least and the middle time.
@@ -64,9 +43,11 @@ fn write_row(
 }
 
 fn run(rt: &HostRuntime) -> Result<(), Trouble> {
-    let words = read_words(rt)?;
+    let words: Vec<String> = env::args(rt)?.collect(rt.alloc())?;
     let turns = read_turns(words.as_slice())?;
-    let mut sheet = read_sheet(rt)?;
+    let mut sheet = Vec::new(rt.alloc());
+    rt.stdin().read_to_end(&mut sheet)?;
+    Bytes::check(sheet.as_slice())?;
     let mut out = BufWriter::new(rt.alloc(), rt.stdout())?;
     if words.len() > 2 {
         for row in words.iter().skip(2) {

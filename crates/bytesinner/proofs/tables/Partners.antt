@@ -7,8 +7,13 @@ use Rattle.std.proofs.lemmas.Grind.{get_or_default_zero}
 use Rattle.std.proofs.lemmas.List.{drop_all, drop_more, get_or-set_same, get_or-set_other, get_or-reverse}
 use Rattle.std.proofs.lemmas.List.{length-reverse}
 use Rattle.std.proofs.lemmas.Slice.Zip.{length-zip, get_or-zip}
-use Rattle.std.specs.List.{zip}
+use Rattle.std.proofs.lemmas.Iterator.{YieldsList, zips, YieldsList-from_zip}
+use Rattle.std.proofs.lemmas.Iterator.Adapters.{YieldsList-from_rev_slice}
+use Rattle.std.specs.Iterator.Adapters.{zip_first, zip_second, rev_source, rev_steps}
+use Rattle.std.specs.List.{concat, zip}
+use Rattle.std.specs.Slice.Iter.{iter_rest, iter_steps_back}
 use Rattle.std.proofs.lemmas.Bool.{cond-true, cond-false, eq-eqb, ne_eqb}
+use Rattle.anystr.specs.OfBytes.{singles, concat-singles}
 use Rattle.bytesinner.specs.tables.Tables.{byte_values}
 use Rattle.bytesinner.specs.tables.Maketrans.{partner, table_from, FirstAt, Entry, MapsFirst}
 
@@ -44,6 +49,16 @@ module _ (table from to : List ℕ) (i j : ℕ) (next : j ≡ i + 1) (long : len
         get_or-set_same table (get_or from i 0) (get_or to i 0) 0,
         get_or-set_other table (get_or from i 0) b (get_or to i 0) 0,
       )
+
+-- a loop over the two lists from their ends comes by their pairs
+pub pairs_yielded : (from to : List ℕ) {s : _}
+    → iter_rest (rev_source (zip_first s)) ≡ concat (singles from)
+    → iter_rest (rev_source (zip_second s)) ≡ concat (singles to)
+    → YieldsList (zips (rev_steps iter_steps_back) (rev_steps iter_steps_back)) (λ p. (p.0.now, p.1.now)) s
+    (zip (reverse from) (reverse to))
+pairs_yielded from to f t =
+    YieldsList-from_zip (YieldsList-from_rev_slice from (f ∙ concat-singles from))
+    (YieldsList-from_rev_slice to (t ∙ concat-singles to))
 
 -- the n-th pair of the two lists from their ends
 pair : (from to : List ℕ) (n k v : ℕ) → length from ≡ length to → n < length (zip (reverse from) (reverse to))

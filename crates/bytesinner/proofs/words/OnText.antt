@@ -11,9 +11,9 @@ use Rattle.anystr.specs.declared.refusal.Refusal.{Refusal}
 use Rattle.searchers.specs.Ascii.{AsciiApart}
 use Rattle.searchers.specs.Marks.{Span}
 use Rattle.anystr.proofs.Boundaries.{end_on}
-use Rattle.bytesinner.specs.Written.{OfWritten, Cuttable}
+use Rattle.bytesinner.specs.Splitting.{WordsLaw}
+use Rattle.bytesinner.specs.Written.{Cuttable}
 use Rattle.bytesinner.specs.words.Words.{is_space, runs, lone_count, to_end, from_start, words_of, rwords_of, Run}
-use Rattle.bytesinner.specs.words.Words.{AllRuns}
 use Rattle.bytesinner.proofs.Written.{written, cuttable-nil, cuttable-cons, cuttable-head, cuttable-tail}
 use Rattle.bytesinner.proofs.words.Longest.{all_runs}
 
@@ -100,14 +100,12 @@ module _ (es : List (List ℕ)) where
   abbrev Told : List Span → (list list' : List Place) → Result ℕ Refusal → Type 0
   Told ps list list' r = record {
     value : Lists (Ok ps) list list' r;
-    law : AllRuns (concat es) (runs (concat es));
-    cut : AsciiApart es → OfWritten (Cuttable es) list' r;
+    law : WordsLaw es list' r;
   }
 
   pub told : (ps : List Span) → (AsciiApart es → Cuttable es ps) → (list list' : List Place) (r : Result ℕ Refusal)
       → Lists (Ok ps) list list' r → Told ps list list' r
   told ps cut list list' r h = record {
     value = h;
-    law = all_runs (concat es);
-    cut = λ apart. written (Cuttable es) ps (cut apart) list list' r h;
+    law = (all_runs (concat es), λ apart. written (Cuttable es) ps (cut apart) list list' r h);
   }

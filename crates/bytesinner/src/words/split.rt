@@ -3,10 +3,8 @@ ghost use Rattle.std.specs.Prelude.{◌≡◌, ◌+◌, suc, min, ◌≤◌, len
 ghost use Rattle.anystr.specs.Limits.{most_bytes};
 ghost use Rattle.anystr.specs.Places.{Lists};
 ghost use Rattle.anystr.specs.Texts.{bytes_of};
-ghost use Rattle.searchers.specs.Ascii.{AsciiApart};
-ghost use Rattle.bytesinner.specs.Written.{OfWritten, Cuttable};
-ghost use Rattle.bytesinner.specs.words.Words.{runs, lone_count, AllRuns};
-ghost use Rattle.bytesinner.specs.words.Words.{words_of, rwords_of};
+ghost use Rattle.bytesinner.specs.Splitting.{WordsLaw};
+ghost use Rattle.bytesinner.specs.words.Words.{runs, lone_count, words_of, rwords_of};
 
 use super::runs::Runs;
 use anystr::anystr::AnyStr;
@@ -56,9 +54,7 @@ pub fn split_whitespace<S: AnyStr>(
 ) -> Result<usize, Refusal>
     ensures value { Lists (Ok (words_of (bytes_of S.AnyStr text.now) maxsplit))
         places.old places.new result }
-    ensures law { AllRuns (bytes_of S.AnyStr text.now) (runs (bytes_of S.AnyStr text.now)) }
-    ensures cut { AsciiApart (S.elements text.now)
-        → OfWritten (Cuttable (S.elements text.now)) places.new result }
+    ensures law { WordsLaw (S.elements text.now) places.new result }
 {
     let shares = Shares::new(text, maxsplit);
     let n = room(shares.places(), places)?;
@@ -80,9 +76,7 @@ pub fn rsplit_whitespace<S: AnyStr>(
 ) -> Result<usize, Refusal>
     ensures value { Lists (Ok (rwords_of (bytes_of S.AnyStr text.now) maxsplit))
         places.old places.new result }
-    ensures law { AllRuns (bytes_of S.AnyStr text.now) (runs (bytes_of S.AnyStr text.now)) }
-    ensures cut { AsciiApart (S.elements text.now)
-        → OfWritten (Cuttable (S.elements text.now)) places.new result }
+    ensures law { WordsLaw (S.elements text.now) places.new result }
 {
     let shares = Shares::new(text, maxsplit);
     let n = room(shares.places(), places)?;

@@ -3,8 +3,6 @@ use Rattle.std.proofs.Common.{arith, length-set, rules}
 use Rattle.std.specs.List.{concat}
 use Rattle.std.proofs.lemmas.Bool.{eq-eqb, ne_eqb}
 use Rattle.std.proofs.lemmas.List.{length_push, length-reverse}
-use Rattle.std.proofs.lemmas.Iterator.{YieldsList-from_zip}
-use Rattle.std.proofs.lemmas.Iterator.Adapters.{YieldsList-from_rev_slice}
 use Rattle.std.proofs.lemmas.Iterator.Consumers.{YieldsList-turn, YieldsList-end}
 use Rattle.std.proofs.lemmas.Slice.Zip.{length-zip}
 use Rattle.anystr.specs.Bytes.{byte_list}
@@ -13,7 +11,7 @@ use Rattle.anystr.specs.declared.refusal.Refusal.{Refusal}
 use Rattle.trays.specs.Trays.{Contents, Fills}
 use Rattle.bytesinner.specs.tables.Tables.{byte_values, Appends}
 use Rattle.bytesinner.specs.tables.Maketrans.{table_from, MapsFirst}
-use Rattle.bytesinner.proofs.tables.Partners.{partners_none, partners_turn, partners_all, maps_first}
+use Rattle.bytesinner.proofs.tables.Partners.{pairs_yielded, partners_none, partners_turn, partners_all, maps_first}
 use Rattle.bytesinner.proofs.tables.maketrans.maketrans.Goals as goal
 
 -- what holds of bytes that are pushed holds of those that are appended
@@ -48,15 +46,12 @@ pub loop-key-preserved : goal.loop-key-preserved
 loop-key-preserved g c =
     let from = byte_list c.args.from.now in
     let to = byte_list c.args.to.now in
-    let f = concat-singles from in
-    let t = concat-singles to in
+    let pairs = pairs_yielded from to (cc) (cc) in
     let inv = c.loop-key.invariant in
-    let pairs = YieldsList-from_zip (YieldsList-from_rev_slice from cc) (YieldsList-from_rev_slice to cc) in
-    let yielded = c.loop-key.yielded in
-    let by = c.loop-key.yielded_by in
+    let xs = c.loop-key.yielded in
     let at = c.in-Some in
-    let next = YieldsList-turn pairs yielded _ by _ c.next.new.self (at.key, at.value) at.is c.next.ensures.steps in
-    let one = length_push yielded (at.key, at.value) in
+    let next = YieldsList-turn pairs xs _ c.loop-key.yielded_by _ c.next.new.self _ at.is c.next.ensures.steps in
+    let one = length_push xs (at.key, at.value) in
     record {
       long = length-set c.loop-key.table at.key.now at.value.now ∙ inv.long;
       even = inv.even;
@@ -67,15 +62,12 @@ pub returns : goal.returns
 returns g c =
     let from = byte_list c.args.from.now in
     let to = byte_list c.args.to.now in
-    let f = concat-singles from in
-    let t = concat-singles to in
+    let pairs = pairs_yielded from to (cc) (cc) in
     let inv = c.loop-key.invariant in
-    let pairs = YieldsList-from_zip (YieldsList-from_rev_slice from cc) (YieldsList-from_rev_slice to cc) in
-    let yielded = c.loop-key.yielded in
-    let by = c.loop-key.yielded_by in
-    let end = YieldsList-end pairs yielded _ by _ c.next.new.self c.in-None.is c.next.ensures.steps in
+    let xs = c.loop-key.yielded in
+    let end = YieldsList-end pairs xs _ c.loop-key.yielded_by _ c.next.new.self c.in-None.is c.next.ensures.steps in
     let zipped = length-zip (reverse from) (reverse to) in
-    let none : length from - length yielded ≡ 0 =
+    let none : length from - length xs ≡ 0 =
     omega (arith, end.1, zipped, length-reverse from, length-reverse to) in
     let table = c.loop-key.table in
     let made = concat-singles table ∙ partners_all table from to _ none inv.long inv.partners in
