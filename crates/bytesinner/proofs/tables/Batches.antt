@@ -6,10 +6,9 @@ use Rattle.std.proofs.lemmas.List.Elements.{filter-append}
 use Rattle.anystr.specs.Limits.{most_bytes}
 use Rattle.anystr.specs.OfBytes.{singles, concat-singles}
 use Rattle.trays.specs.Trays.{Contents, IsFilled}
-use Rattle.cutters.proofs.Pouring.{Pouring}
+use Rattle.cutters.proofs.Pouring.{Pouring, took_next}
 use Rattle.bytesinner.specs.tables.Entries.{image_in, is_gone_in, images_in}
 use Rattle.bytesinner.specs.tables.Translations.{kept_bytes}
-use Rattle.bytesinner.proofs.joins.Joining.{took_next}
 
 -- the images of two stretches are those of the one and then those of the other
 pub images_in-append : (cells xs ys : List ℕ) → images_in cells (xs ++ ys) ≡ images_in cells xs ++ images_in cells ys
