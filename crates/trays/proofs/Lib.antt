@@ -1,3 +1,3 @@
 pub mod Gains
 pub mod LabelWrites
-pub mod Strides
+pub mod Written

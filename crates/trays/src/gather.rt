@@ -1,22 +1,19 @@
 // A tray over another one, to which short stretches go together.
-ghost use Rattle.std.specs.Prelude.{◌≡◌, ◌+◌, ◌≤◌, ◌++◌, length, take, Ok};
+ghost use Rattle.std.specs.Prelude.{◌≡◌, ◌+◌, ◌≤◌, length, take, Ok};
 ghost use Rattle.anystr.specs.Limits.{most_bytes};
 ghost use Rattle.anystr.specs.Places.{part};
 ghost use Rattle.anystr.specs.Texts.{bytes_of};
 ghost use Rattle.trays.specs.Trays.{Fills, gained};
-ghost use Rattle.trays.specs.declared.gather.TheConstants.{MOST_GATHERED, STRIDE};
+ghost use Rattle.trays.specs.declared.gather.TheConstants.{MOST_GATHERED};
 
 use super::container::AnyStrContainer;
+use super::strides::{STRIDE, write_part};
 use anystr::anystr::AnyStr;
 use anystr::bytes::Bytes;
 use anystr::refusal::Refusal;
-use std::simd::prelude::*;
 
 // The bytes of a batch.
 const BATCH_BYTES: usize = 256;
-
-// The bytes that are copied at once.
-const STRIDE: usize = 32;
 
 // The most bytes that are gathered: behind them a stride has room.
 const MOST_GATHERED: usize = BATCH_BYTES - STRIDE;
@@ -31,27 +28,15 @@ fn append<T: AnyStrContainer>(tray: &mut T, bytes: &[u8])
     let _ = tray.push_str(&Bytes::new(bytes));
 }
 
-// Writes the first `n` bytes behind the first `len` of the batch. Few go as a whole stride, where
-// there is one: what it writes past them is no part of the batch.
-fn write_part(batch: &mut [u8], len: usize, bytes: &[u8], n: usize)
-    requires within { n ≤ length bytes.now }
-    requires room { len + n + STRIDE ≤ length batch.old }
-    ensures { take (len + n) batch.new ≡ take len batch.old ++ take n bytes.now }
-{
-    if n <= STRIDE && STRIDE <= bytes.len() {
-        u8x32::from_slice(bytes).copy_to_slice(&mut batch[len..]);
-    } else {
-        batch[len..len + n].copy_from_slice(&bytes[..n]);
-    }
-}
-
-/// A tray over another one: short stretches are gathered, and pushed on together.
+/// A tray over another one: short stretches are gathered, and pushed on together. It holds what the
+/// tray below holds, with the gathered bytes behind.
+// Not `Drop`: let go, it would lose what is gathered, so it ends by `finish`.
 pub struct Gather<'a, T: AnyStrContainer> {
     tray: &'a mut T,
     batch: [u8; BATCH_BYTES],
     len: usize,
     ghost few: { len ≤ MOST_GATHERED },
-    ghost free: { len ≤ length (T.contents tray.now).spare },
+    ghost fits: { len ≤ length (T.contents tray.now).spare },
 }
 
 impl<'a, T: AnyStrContainer> Gather<'a, T> {
@@ -79,11 +64,13 @@ impl<'a, T: AnyStrContainer> Gather<'a, T> {
     {
         let len = self.len;
         self.len = 0;
+        // by a name of its own: no part of a field is lent beside another field
         let batch = &self.batch;
         append(self.tray, &batch[..len]);
     }
 
     // Gathers the first `n` bytes, which have room.
+    #[inline(always)]
     fn hold(&mut self, bytes: &[u8], n: usize)
         requires within { n ≤ length bytes.now }
         requires room { self.old.len + n ≤ MOST_GATHERED }
@@ -97,8 +84,11 @@ impl<'a, T: AnyStrContainer> Gather<'a, T> {
         self.len += n;
     }
 
-    // Appends the first `n` bytes, which fit: more than a batch holds go on by themselves.
-    fn push_first(&mut self, bytes: &[u8], n: usize)
+    // Appends the first `n` bytes, which fit, where the batch has too little room: it is pushed on,
+    // and more than a batch holds goes on by itself. No part of `push_part`, so that that is short.
+    #[cold]
+    #[inline(never)]
+    fn push_past(&mut self, bytes: &[u8], n: usize)
         requires within { n ≤ length bytes.now }
         requires few { length bytes.now ≤ most_bytes }
         requires fits { n ≤ length (gathered_contents self.old).spare }
@@ -107,10 +97,6 @@ impl<'a, T: AnyStrContainer> Gather<'a, T> {
         ensures same_loan { gathered_loan self.new ≡ gathered_loan self.old }
         ensures lent { lent_tray self.new ≡ lent_tray self.old }
     {
-        if n <= MOST_GATHERED - self.len {
-            self.hold(bytes, n);
-            return;
-        }
         self.flush();
         if n <= MOST_GATHERED {
             self.hold(bytes, n);
@@ -121,6 +107,7 @@ impl<'a, T: AnyStrContainer> Gather<'a, T> {
 
     /// Appends the bytes of a text from `start` to `end`, as far as there are any. Where they are
     /// more than are free it is refused (7, with their number), and nothing changes.
+    #[inline(always)]
     pub fn push_part<S: AnyStr>(
         &mut self,
         text: &S,
@@ -137,7 +124,11 @@ impl<'a, T: AnyStrContainer> Gather<'a, T> {
         if n > self.free() {
             return Err(Refusal::TooSmall { needed: n as u64 });
         }
-        self.push_first(bytes, n);
+        if n <= MOST_GATHERED - self.len {
+            self.hold(bytes, n);
+        } else {
+            self.push_past(bytes, n);
+        }
         Ok(())
     }
 
@@ -168,6 +159,7 @@ impl<'a, T: AnyStrContainer> AnyStrContainer for Gather<'a, T> {
         self.tray.free() - self.len
     }
 
+    #[inline(always)]
     fn push_str<S: AnyStr>(&mut self, text: &S) -> Result<(), Refusal>
         ensures fills { Fills gathered_contents (Ok (bytes_of S.AnyStr text.now))
             self.old self.new result }

@@ -7,3 +7,4 @@ pub mod container;
 pub mod gather;
 pub mod label;
 mod put;
+mod strides;

@@ -1,6 +1,6 @@
 use Rattle.std.proofs.Common.{arith}
-use Rattle.trays.proofs.Strides.{stride_written}
-use Rattle.trays.proofs.gather.write_part.Goals as goal
+use Rattle.trays.proofs.Written.{stride_written}
+use Rattle.trays.proofs.strides.write_part.Goals as goal
 
 pub returns-then-bytes-ge-STRIDE : goal.returns-then-bytes-ge-STRIDE
 returns-then-bytes-ge-STRIDE c =
