@@ -1,6 +1,6 @@
 -- What comes in a join from one of its places on, and how many bytes a join can take.
 use Rattle.std.proofs.Common.{◌≡◌, ℕ, zero, suc, ◌+◌, ◌-◌, ◌*◌, ◌^◌, ◌<◌, ◌≤◌, List, [], ◌∷◌, ◌++◌, map, length, get_or}
-use Rattle.std.proofs.Common.{drop, Some, None, Ok, Result, sym, refl, ap, ◌∙◌, append-nil, suc-mul, mul-le-mul}
+use Rattle.std.proofs.Common.{drop, Some, sym, refl, ap, ◌∙◌, append-nil, suc-mul, mul-le-mul}
 use Rattle.std.proofs.Common.{zero-mul, add-one, arith, length-append, length-drop, length-take}
 use Rattle.std.specs.List.{concat}
 use Rattle.std.proofs.lemmas.List.{drop_more, length-map}
@@ -9,7 +9,7 @@ use Rattle.anystr.specs.Limits.{most_bytes}
 use Rattle.anystr.specs.Places.{stretch, stretches, part, with_between, join_parts}
 use Rattle.anystr.specs.declared.place.Place.{Place}
 use Rattle.bytesinner.specs.joins.Joins.{most_places, first_bad}
-use Rattle.bytesinner.proofs.joins.Places.{passes, stops, none-bad, part-long}
+use Rattle.bytesinner.proofs.joins.Places.{passes, stops, part-long}
 
 -- what a list has past its end
 abbrev pub nowhere : Place

@@ -1,5 +1,5 @@
 -- Places in a text: what the tests of boundaries and of places say.
-use Rattle.std.proofs.Common.{◌≡◌, ℕ, suc, ◌-◌, true, List, ◌∷◌, length, drop, Some, None, sym, ◌∙◌, ⊎_elim, arith}
+use Rattle.std.proofs.Common.{◌≡◌, ℕ, suc, ◌-◌, true, List, ◌∷◌, length, drop, Some, ⊎_elim, arith}
 use Rattle.std.proofs.Common.{length-drop, length-take}
 use Rattle.std.specs.List.{concat}
 use Rattle.std.proofs.lemmas.Bool.{cond-true, cond-false, le-leb, leb-true, and_parts, and_from, cases_Bool}
@@ -29,14 +29,6 @@ pub stops : (es : List (List ℕ)) (at : ℕ) (p : ℕ × ℕ) (ps : List (ℕ �
     → first_bad es at (p ∷ ps) ≡ Some at
 stops es at p ps bad =
     ⊎_elim (λ t. absurd (bad (cut_from es p t))) (λ f. cond-false _ _ _ f) (cases_Bool (can_cut es p))
-
--- where none is bad, the first is good
-pub none-bad : (es : List (List ℕ)) (at : ℕ) (p : ℕ × ℕ) (ps : List (ℕ × ℕ)) → first_bad es at (p ∷ ps) ≡ None
-    → Cut es p.0 p.1
-none-bad es at p ps h = ⊎_elim
-    (λ t. cut_from es p t)
-    (λ f. let e : Some at ≡ None = sym (cond-false _ _ _ f) ∙ h in let z : ◌≡◌ {A = ℕ} 0 1 = cc in absurd (omega arith))
-    (cases_Bool (can_cut es p))
 
 -- the bytes of a place that can be cut out
 pub part-long : (es : List (List ℕ)) (a e : ℕ) → Cut es a e → length (part (concat es) (a, e)) ≡ e - a

@@ -1,14 +1,12 @@
 use Rattle.std.proofs.Common.{◌≡◌, suc, ◌+◌, ◌<◌, ◌≤◌, [], ◌++◌, length, get_or, sym, refl, ap, ◌∙◌, subst, rules, arith}
 use Rattle.std.specs.List.{concat}
-use Rattle.anystr.specs.Elements.{Cut, offset}
+use Rattle.anystr.specs.Elements.{offset}
 use Rattle.anystr.specs.Places.{part}
 use Rattle.anystr.specs.Refusals.{coded}
 use Rattle.anystr.specs.Texts.{bytes_of}
-use Rattle.anystr.proofs.Boundaries.{end_on, offset-within}
-use Rattle.anystr.proofs.Parts.{concat-part}
 use Rattle.anystr.proofs.Walking.{offset-all, element_here, none_here, rest-bytes}
 use Rattle.trays.specs.Gathers.{gathered_contents, gathered_loan, lent_tray}
-use Rattle.trays.specs.Trays.{Contents, gained}
+use Rattle.trays.specs.Trays.{gained}
 use Rattle.trays.specs.declared.gather.Gather.{Gather}
 use Rattle.cutters.proofs.Pouring.{Pouring, took_next}
 use Rattle.bytesinner.specs.replaces.Replacements.{copies_spread}
