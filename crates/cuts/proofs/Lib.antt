@@ -8,6 +8,7 @@ pub mod Sizes
 pub mod Mirror
 pub mod Splits
 pub mod Back
+pub mod Ends
 pub mod Yielding
 pub mod Skips
 pub mod Pours

@@ -12,8 +12,8 @@ pub fn fewer(made: u64, bound: i64) -> bool
     bound < 0 || made < bound as u64
 }
 
-// Whether there is no bound: any number of cuts is fewer.
-pub(crate) fn unbounded(bound: i64) -> bool
+/// Whether there is no bound: any number of cuts is fewer.
+pub fn unbounded(bound: i64) -> bool
     ensures { IsTrue result ↔ ((made : ℕ) → IsTrue (few_cuts made bound)) }
 {
     bound < 0

@@ -1,5 +1,5 @@
 // The calls on a cutter from the end.
-ghost use Rattle.std.specs.Prelude.{◌≡◌};
+ghost use Rattle.std.specs.Prelude.{◌≡◌, length, IfSome};
 ghost use Rattle.std.specs.Iterator.{item_count};
 ghost use Rattle.searchers.specs.Marks.{OnBoundaries};
 ghost use Rattle.cuts.specs.Cuts.{at_opening};
@@ -8,7 +8,7 @@ ghost use Rattle.bytesinner.specs.splits.Yields.{next-yields, counts_down};
 
 use super::BackCutter;
 use anystr::anystr::AnyStr;
-use cutters::bound::fewer;
+use cutters::bound::{fewer, unbounded};
 use cutters::piece::Piece;
 use cutters::pieces::source::Pieces;
 use cutters::progress::Progress;
@@ -43,6 +43,20 @@ impl<S: AnyStr, F: ReverseSearcher<S>> BackCutter<S, F> {
         let text = self.text;
         self.searcher.rfind(&text, self.progress.place)
     }
+
+    // The number of pieces that are left, where a count from the front tells it: before the first
+    // cut, without a bound, where all marks have one length.
+    fn count_from_front(&self) -> Option<usize>
+        ensures { IfSome result (λ n. n ≡ length (left_pieces self.now)) }
+    {
+        let text = self.text;
+        let is_whole = !self.progress.spent && self.progress.place == text.bytes_len();
+        if !is_whole || !unbounded(self.bound) {
+            return None;
+        }
+        self.searcher.mark_len(&text)?;
+        Some(self.searcher.count_cuts(&text, 0) + 1)
+    }
 }
 
 impl<S: AnyStr, F: ReverseSearcher<S> + Drop> Iterator for BackCutter<S, F> {
@@ -75,6 +89,13 @@ impl<S: AnyStr, F: ReverseSearcher<S> + Drop> Iterator for BackCutter<S, F> {
 
 impl<S: AnyStr, F: ReverseSearcher<S> + Drop> Pieces for BackCutter<S, F> {
     ghost left = { left_pieces };
+
+    fn count_left(self) -> usize {
+        if let Some(count) = self.count_from_front() {
+            return count;
+        }
+        self.count()
+    }
 
     ghost asked = { λ _. tt };
 
