@@ -3,3 +3,4 @@ pub mod Scan
 pub mod Bounded
 pub mod OnText
 pub mod Opened
+pub mod Spaces

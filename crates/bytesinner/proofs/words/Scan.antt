@@ -1,13 +1,23 @@
 -- The runs that are left, past the whitespace at the front and past the run that follows it.
-use Rattle.std.proofs.Common.{◌≡◌, ℕ, suc, ◌+◌, ◌<◌, Bool, true, false, not, ltb, List, [], ◌∷◌, ◌++◌, length, drop}
+use Rattle.std.proofs.Common.{◌≡◌, ℕ, suc, ◌+◌, ◌<◌, Bool, true, false, not, ltb, List, [], ◌∷◌, ◌++◌, length, drop, Some, Option}
 use Rattle.std.proofs.Common.{sym, refl, ap, ◌∙◌, subst, arith}
-use Rattle.std.specs.Bool.{beq}
+use Rattle.std.specs.Bool.{beq, ⊤}
+use Rattle.std.specs.Iterator.{MakesProgress, item_count}
 use Rattle.std.specs.List.{slice_range}
 use Rattle.std.proofs.lemmas.List.{drop-drop, append-nil, take_rest}
 use Rattle.std.proofs.lemmas.Bool.{lt-ltb, cond_both, cond-true, cond-false}
+use Rattle.anystr.specs.declared.anystr.AnyStr
 use Rattle.searchers.specs.Marks.{Span}
-use Rattle.bytesinner.specs.words.Words.{is_space, stretch_len, run, runs_from, runs_left}
-use Rattle.bytesinner.specs.words.Yields.{no_run}
+use Rattle.searchers.specs.Seen.{IsSeenOf}
+use Rattle.searchers.specs.bytesets.Sets.{single_bytes}
+use Rattle.searchers.specs.declared.seen.Seen.{Seen}
+use Rattle.cutters.specs.Calls.{span}
+use Rattle.cutters.specs.declared.piece.Piece.{Piece}
+use Rattle.cutters.proofs.Yielding.{goes_on}
+use Rattle.bytesinner.specs.words.Words.{is_space, stretch_len, run, runs_from, runs_left, first_run}
+use Rattle.bytesinner.specs.words.Runs.{bytes, left_runs, RunStep}
+use Rattle.bytesinner.specs.declared.words.runs.Runs.{Runs}
+use Rattle.bytesinner.specs.words.Yields.{no_run, next-yields}
 
 -- a stretch with a byte is a run
 one_run : (a e : ℕ) → a < e → run a e ≡ (a, e) ∷ []
@@ -84,45 +94,70 @@ ends (b ∷ bs) = front b bs true (λ n. stretch_len (drop n (b ∷ bs)) false �
     (λ _ h. absurd (omega arith))
     (λ bare h. let t : true ≡ false = sym bare ∙ is in cc))
 
--- what a scan from an offset on finds: so many bytes of whitespace, and so many after them that are none
-pub record Scanned (bytes : List ℕ) (place passed len : ℕ) : Type 0 where
-  pub over : passed ≡ stretch_len (drop place bytes) true
-  pub through : len ≡ stretch_len (drop passed (drop place bytes)) false
+-- what a scan from an offset on finds: where the whitespace there ends, and where the bytes end that are none
+pub record Scanned (bytes : List ℕ) (place start end : ℕ) : Type 0 where
+  pub over : start ≡ place + stretch_len (drop place bytes) true
+  pub through : end ≡ start + stretch_len (drop start bytes) false
 
--- a scan of the rest, as slices of it are read
-pub scanned : {bytes : List ℕ} {place passed len : ℕ} (all rest : List ℕ) → all ≡ bytes
-    → rest ≡ slice_range all place (length all) → passed ≡ stretch_len rest true
-    → len ≡ stretch_len (slice_range rest passed (length rest)) false
-    → Scanned bytes place passed len
-scanned {place = place} {passed = passed} all rest same is over through =
-    let from_place = is ∙ (take_rest all place ∙ ap (drop place) same) in
-    let from_passed = take_rest rest passed ∙ ap (drop passed) from_place in
+-- a scan of the bytes that are read from the offset on, by what was seen of the whitespace
+pub scanned : {bytes : List ℕ} {place len end : ℕ} {seen : Seen} (all rest : List ℕ) → all ≡ bytes
+    → IsSeenOf (single_bytes is_space bytes) seen
+    → rest ≡ slice_range all place (length all) → len ≡ stretch_len rest true
+    → (IsSeenOf (single_bytes is_space all) seen → end ≡ place + len + stretch_len (drop (place + len) all) false)
+    → Scanned bytes place (place + len) end
+scanned {place = place} {len = len} {seen = seen} all rest same looked is over through =
+    let from_place = is ∙ take_rest all place ∙ ap (drop place) same in
+    let of = subst (λ bs. IsSeenOf (single_bytes is_space bs) seen) (sym same) looked in
     record {
-      over = over ∙ ap (λ (bs : List ℕ). stretch_len bs true) from_place;
-      through = through ∙ ap (λ (bs : List ℕ). stretch_len bs false) from_passed;
+      over = ap (λ (n : ℕ). place + n) (over ∙ ap (λ (bs : List ℕ). stretch_len bs true) from_place);
+      through = through of ∙ ap (λ (bs : List ℕ). place + len + stretch_len (drop (place + len) bs) false) same;
     }
 
-module _ (bytes : List ℕ) (place passed len : ℕ) (s : Scanned bytes place passed len) where
-  abbrev from_place : List ℕ
-  from_place = drop place bytes
+module _ (bytes : List ℕ) (place start end : ℕ) (s : Scanned bytes place start end) where
+  -- the bytes past the whitespace
+  past_space : drop (stretch_len (drop place bytes) true) (drop place bytes) ≡ drop start bytes
+  past_space =
+      drop-drop (stretch_len (drop place bytes) true) place bytes ∙ ap (λ (k : ℕ). drop k bytes) (sym s.over)
 
-  passed_over : runs_left bytes place ≡ behind place from_place passed
-  passed_over = over_space place from_place ∙ ap (behind place from_place) (sym s.over)
+  passed_over : runs_left bytes place ≡ runs_left bytes start
+  passed_over =
+      over_space place (drop place bytes)
+      ∙ (λ k. runs_from (sym s.over k) (sym s.over k) (past_space k))
 
   -- a scan that found no byte has found the end
-  pub none_left : len ≡ 0 → runs_left bytes place ≡ []
+  pub none_left : start ≡ end → runs_left bytes place ≡ []
   none_left none =
-      let bare = ap (λ (n : ℕ). stretch_len (drop n from_place) false) (sym s.over) ∙ (sym s.through ∙ none) in
-      let at_end = ap (λ (n : ℕ). drop n from_place) s.over ∙ ends from_place bare in
-      passed_over ∙ (ap (runs_from (place + passed) (place + passed)) at_end ∙ no_run (place + passed))
+      let bare : stretch_len (drop start bytes) false ≡ 0 = omega (arith, s.through) in
+      let at_end = ends (drop place bytes) (ap (λ (bs : List ℕ). stretch_len bs false) past_space ∙ bare) in
+      passed_over ∙ ap (runs_from start start) (sym past_space ∙ at_end) ∙ no_run start
 
   -- one that found some has found the next run
-  pub run_after : 0 < len
-      → runs_left bytes place ≡ (place + passed, place + passed + len) ∷ runs_left bytes (place + passed + len)
+  pub run_after : start < end → runs_left bytes place ≡ (start, end) ∷ runs_left bytes end
   run_after some =
-      let start : ℕ = place + passed in
-      let end : ℕ = start + len in
-      let rest : List ℕ = drop passed from_place in
-      let after = ap (drop len) (drop-drop passed place bytes) ∙ drop-drop len start bytes in
-      let through = through_run start start rest ∙ ap (then_behind start start rest) (sym s.through) in
-      passed_over ∙ (through ∙ (λ k. one_run start end (omega arith) k ++ runs_from end end (after k)))
+      let len : ℕ = stretch_len (drop start bytes) false in
+      let through = through_run start start (drop start bytes) in
+      let after = drop-drop len start bytes in
+      let there = sym s.through in
+      let rest = after ∙ ap (λ (k : ℕ). drop k bytes) there in
+      passed_over ∙ through
+      ∙ (λ k. run start (there k) ++ runs_from (there k) (there k) (rest k))
+      ∙ ap (λ (rs : List Span). rs ++ runs_left bytes end) (one_run start end some)
+
+-- a run as a piece
+abbrev a_run : (start end : ℕ) → Option Piece
+a_run start end = Some (record { start = start; end = end })
+
+-- a next that stops behind the run gives it, and one fewer is left
+pub gives_run : {S C : Type 0} (t : AnyStr.Ghosts S C) (rs : Runs S C t) (start end : ℕ)
+    → Scanned (bytes t rs) rs.place start end → start < end
+    → (ss : Runs S C t) → ss.place ≡ end → ss.text ≡ rs.text
+    → RunStep t rs (a_run start end) ss × MakesProgress (λ _. ⊤) (item_count (left_runs t)) rs (a_run start end) ss
+gives_run t rs start end s some ss place text =
+    let run = a_run start end in
+    let step : RunStep t rs run ss = record {
+      step =
+          (λ k. (Some (start, end), place k))
+          ∙ ap (first_run rs.place) (sym (run_after (bytes t rs) rs.place start end s some));
+      same = text;
+    } in
+    (step, goes_on span (left_runs t) rs run ss (next-yields t rs run ss step))

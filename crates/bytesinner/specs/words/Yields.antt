@@ -65,9 +65,9 @@ run_yields bytes place = by (runs_left bytes place) refl (from_end place place (
         let there = drop-drop (r.1 - place) place bytes ∙ ap (λ n. drop n bytes) z in
         e ∙ ap (λ (ms : List Span). r ∷ ms) (sym h.1 ∙ ap (runs_from r.1 r.1) there)
 
-module _ {S C : Type 0} (s : AnyStr.Ghosts S C) (rs : Runs S C) where
+module _ {S C : Type 0} (s : AnyStr.Ghosts S C) (rs : Runs S C s) where
   -- a next gives the first of the runs that are left
-  pub next-yields : (r : Option Piece) (ss : Runs S C) → RunStep s rs r ss → YieldsFirstBy span (left_runs s) rs r ss
+  pub next-yields : (r : Option Piece) (ss : Runs S C s) → RunStep s rs r ss → YieldsFirstBy span (left_runs s) rs r ss
   next-yields r ss n =
       let now = runs_left (bytes s rs) in
       let after : left_runs s ss ≡ now ss.place = λ i. runs_left (concat (s.elements (n.same i))) ss.place in

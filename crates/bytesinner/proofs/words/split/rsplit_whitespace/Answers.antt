@@ -13,7 +13,7 @@ use Rattle.bytesinner.proofs.words.OnText.{rwords-cut, told}
 use Rattle.bytesinner.proofs.words.split.rsplit_whitespace.Goals as goal
 
 -- what is left of the runs behind those that are passed over
-skipped : {S C : Type 0} {s : AnyStr.Ghosts S C} {text : S} (last : Skip (Runs S C)) {all : Runs S C} {n : ℕ}
+skipped : {S C : Type 0} {s : AnyStr.Ghosts S C} {text : S} (last : Skip (Runs S C s)) {all : Runs S C s} {n : ℕ}
     → IsOn s text 0 all → skip_source last ≡ all → skip_count last ≡ n
     → left_after (left_runs s) last ≡ drop n (runs (concat (s.elements text)))
 skipped {s = s} last {all} {n} on from over =
