@@ -1,6 +1,6 @@
 // The search for marks: a loop from each end, for every pattern.
 ghost use Rattle.std.specs.Prelude.{◌≡◌, ℕ, ◌+◌, ◌<◌, ◌≤◌, List, length};
-ghost use Rattle.searchers.specs.Marks.{Marks, Lawful, Finds, FindsBack, FindsOne};
+ghost use Rattle.searchers.specs.Marks.{Marks, Lawful, CutTimes, Finds, FindsBack, FindsOne};
 ghost use Rattle.searchers.specs.Seen.{IsSeenOf, MayBegin, MayEnd, Begins, NoneBegins, NoneEnds};
 ghost use Rattle.searchers.specs.Seen.{FindsWithin, FindsBackWithin};
 
@@ -149,6 +149,33 @@ pub fn first_mark<P: Pattern>(pattern: &P, bytes: &[u8], from: usize) -> Option<
     ensures { Finds (P.marks pattern.now bytes.now) from result }
 {
     next_mark(pattern, bytes, from, &mut Seen::nothing())
+}
+
+/// The number of marks that are cut from the offset `from` on, without overlap.
+// Not by `next_mark`: nothing has to be kept from one mark to the next.
+pub(crate) fn count_from<P: Pattern>(pattern: &P, bytes: &[u8], from: usize) -> usize
+    ensures { CutTimes (P.marks pattern.now bytes.now) from result }
+{
+    let mut count = 0;
+    let mut place = from;
+    let mut at = from;
+    while at < bytes.len() {
+        let mut left = pattern.begins(bytes, at);
+        while left != 0 {
+            let bit = lowest(left);
+            left = without(left, bit);
+            let start = at + bit;
+            if start < place {
+                continue;
+            }
+            if let Some(end) = pattern.mark_from(bytes, start) {
+                count += 1;
+                place = end;
+            }
+        }
+        at += LANES;
+    }
+    count
 }
 
 // The last mark that ends where one may, by the bits of the offsets after `at`.

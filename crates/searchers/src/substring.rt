@@ -12,7 +12,7 @@ ghost use Rattle.searchers.specs.substring.Substrings.{needle_of, needle_bytes};
 
 use crate::lanes::{LANES, places_among, times};
 use crate::mark::Mark;
-use crate::scan::{Pattern, last_mark, next_mark};
+use crate::scan::{Pattern, count_from, last_mark, next_mark};
 use crate::searcher::{ReverseSearcher, Searcher};
 use crate::seen::Seen;
 use anystr::anystr::AnyStr;
@@ -219,10 +219,16 @@ impl<S: AnyStr> Searcher<S> for Substring<S> {
     }
 
     fn count_at_once(&self, text: &S, from: usize) -> Option<usize> {
-        let [byte] = self.needle.as_bytes() else {
-            return None;
-        };
-        Some(count_byte(*byte, text.as_bytes(), from))
+        let bytes = text.as_bytes();
+        match self.needle.as_bytes() {
+            [byte] => Some(count_byte(*byte, bytes, from)),
+            needle if needle.len() <= LANES => Some(count_from(
+                &Needle { bytes: needle },
+                bytes,
+                from,
+            )),
+            _ => None,
+        }
     }
 
     fn mark_len(&self, _text: &S) -> Option<usize> {
