@@ -376,6 +376,61 @@ CUTTERS = [(b'a,b', b',', -1, 'skip:3 skip:2 next pour:x2b:9 rest'),
            (b'a,b', b'', -1, 'next')]
 
 
+# as many bytes as are looked at side by side, half of them and twice as many, and one less and more
+ACROSS = (31, 32, 33, 63, 64, 65, 127, 128, 129)
+
+
+def strewn(size, mark):
+    """A text with the mark at both ends, and before, across and behind each offset at which a look side by side may end."""
+    t = bytearray(b'x' * size)
+    for at in (0, 24, 32 - len(mark) // 2, 40, 56, 64 - len(mark) // 2, 72, 128 - len(mark) // 2, size - len(mark)):
+        if at + len(mark) <= size:
+            t[at:at + len(mark)] = mark
+    return bytes(t)
+
+
+def across():
+    """Marks across the offsets that are looked at side by side, in texts of about as many bytes."""
+    turned = bytes(255 - i for i in range(256))
+    for size in ACROSS:
+        for kind, m in (('bytes', b','), ('bytes', b'<|>'), ('text', EURO)):
+            t = strewn(size, m)
+            for n in (-1, 2):
+                split(kind, t, m, n, 20)
+                rsplit(kind, t, m, n, 20)
+            replace(kind, t, m, b';', None, 400)
+            cutter(kind, t, 'sub:' + x(m), -1, 'next', 'skip:1', 'rest', 'pour:' + x(m * 2) + ':400', 'next')
+            for p in (0, 1, 25, 33, 41, 64, 65, size - len(m), size):
+                mark(kind, t, 'sub:' + x(m), p)
+                rmark(kind, t, 'sub:' + x(m), p)
+        sought(strewn(size, b'<|>'), b'<|>')
+        sought(strewn(size, b'<|>'), b'<|>', 30, -1)
+        sought(strewn(size, b','), b',')
+        sought(b'x' * size, b'xxx')
+        sought(b'x' * size, b'y')
+        t = strewn(size, b' \r\n')
+        for n in (-1, 2):
+            split('text', t, None, n, 40)
+            rsplit('bytes', t, None, n, 40)
+        splitlines('text', t, False, 40)
+        splitlines('bytes', t, True, 40)
+        for members in (b'\n,', b'\x00\x01\x02\x03\x04\x05\x06\x07\n'):
+            for p in (0, 1, 33, 64, 66, size):
+                mark('bytes', t, 'set:' + x(members), p)
+                rmark('bytes', t, 'set:' + x(members), p)
+        translate(t, turned, None, 400)
+        translate(t, turned, b'\rx', 400)
+        translate(t, turned, b'\rx', 1)
+    # needles about as long, which stand nearly everywhere
+    for size in ACROSS[3:6]:
+        for needle in (b'a' * (size - 1) + b'b', b'b' + b'a' * (size - 1), b'a' * size):
+            for t in (b'a' * 200, b'a' * 90 + needle + needle + b'a' * 20, needle):
+                sought(t, needle)
+                split('bytes', t, needle, -1, 20)
+                rsplit('bytes', t, needle, -1, 20)
+                replace('bytes', t, needle, b'c', None, 400)
+
+
 def write():
     for kind in ('bytes', 'text'):
         # what the Reference prints of split, rsplit and splitlines
@@ -535,6 +590,7 @@ def write():
     maketrans(b'aa', b'xy', 256)
     maketrans(b'abc', b'xy', 256)
     maketrans(bytes(range(256)), turned, 256)
+    across()
     # lines that are no case
     for line in ('', 'split', 'split bytes x61 x2c', 'split bytes xg1 x2c -1 9', 'split runes x61 x2c -1 9', 'find x61 x61 - - -',
                  'join bytes x2c x61 0-1,1 9', 'cutter bytes x61 sub:x61 -1 leap', 'element bytes x61 -1', 'splitlines text x61 2 9'):
