@@ -16,6 +16,11 @@ pub found_on : (es : List (List ℕ)) (marks : Marks) (from : ℕ) (r : Option M
 found_on es marks from None on none = tt
 found_on es marks from (Some m) on found = on m.start m.end found.is
 
+pub found_back_on : (es : List (List ℕ)) (marks : Marks) (before : ℕ) (r : Option Mark) → Bounded es marks
+    → FindsBack marks before r → OnBoundaries es r
+found_back_on es marks before None on none = tt
+found_back_on es marks before (Some m) on found = on m.start m.end found.is
+
 -- what a search from a later offset finds, where no mark begins before it
 pub found_later : (marks : Marks) (from at : ℕ) (r : Option Mark) → from ≤ at → NoneBegins marks from at
     → Finds marks at r → Finds marks from r
