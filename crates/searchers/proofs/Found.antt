@@ -5,14 +5,21 @@ use Rattle.std.specs.Int.{bit_at}
 use Rattle.std.proofs.lemmas.Nat.Bits.{bit_at_above}
 use Rattle.searchers.specs.declared.mark.Mark.{Mark}
 use Rattle.searchers.specs.declared.seen.Seen.{Seen}
-use Rattle.searchers.specs.Marks.{Marks, Bounded, Finds, OnBoundaries}
+use Rattle.searchers.specs.declared.seen.SeenBack.{SeenBack}
+use Rattle.searchers.specs.Marks.{Marks, Bounded, Lawful, Finds, FindsBack, OnBoundaries}
 use Rattle.searchers.specs.Seen.{Begins, IsSeenOf, MayBegin, NoneBegins, Rest}
+use Rattle.searchers.specs.Seen.{Ends, IsSeenBackOf, MayEnd, NoneEnds, RestBack}
 
 -- what is found of marks that lie on boundaries lies on boundaries
 pub found_on : (es : List (List ℕ)) (marks : Marks) (from : ℕ) (r : Option Mark) → Bounded es marks
     → Finds marks from r → OnBoundaries es r
 found_on es marks from None on none = tt
 found_on es marks from (Some m) on found = on m.start m.end found.is
+
+pub found_back_on : (es : List (List ℕ)) (marks : Marks) (before : ℕ) (r : Option Mark) → Bounded es marks
+    → FindsBack marks before r → OnBoundaries es r
+found_back_on es marks before None on none = tt
+found_back_on es marks before (Some m) on found = on m.start m.end found.is
 
 -- what a search from a later offset finds, where no mark begins before it
 pub found_later : (marks : Marks) (from at : ℕ) (r : Option Mark) → from ≤ at → NoneBegins marks from at
@@ -53,4 +60,45 @@ rest_begins marks seen from bits is rest = record {
       let low = rest.low in
       let under = is.below (from - seen.at + k) (sym (rest.moved k) ∙ set) in
       omega arith;
+}
+
+-- what a search before an earlier offset finds, where no mark ends after it
+pub found_earlier : (marks : Marks) (before to : ℕ) (r : Option Mark) → to ≤ before → NoneEnds marks to before
+    → FindsBack marks to r → FindsBack marks before r
+found_earlier marks before to None le clear none = λ b d ge m.
+    ⊎_elim (λ past. clear b d past ge m) (λ within. none b d within m) (cases_lt to d)
+found_earlier marks before to (Some m) le clear found = record {
+  ahead = omega (arith, found.ahead);
+  is = found.is;
+  greatest = λ b d ge t.
+      ⊎_elim (λ past. absurd (clear b d past ge t)) (λ within. found.greatest b d within t) (cases_lt to d);
+}
+
+-- no mark ends after an offset and up to there
+pub none_back : (marks : Marks) (at to before : ℕ) → NoneEnds marks to before → NoneEnds marks at to
+    → NoneEnds marks at before
+none_back marks at to before front back b d ge le m =
+    ⊎_elim (λ past. front b d past le m) (λ within. back b d ge within m) (cases_lt to d)
+
+-- no mark ends past the text
+pub none_past : (marks : Marks) (len before to : ℕ) → Lawful marks len
+    → ((e : ℕ) → e ≤ before → e ≤ len → e ≤ to) → NoneEnds marks to before
+none_past marks len before to law short b e past le m = omega (arith, short e le (law.within b e m))
+
+-- 64 bits tell of no offset past as many
+pub whole_ends : (marks : Marks) (at to bits : ℕ) → at + 64 ≡ to → bits < 18446744073709551616
+    → MayEnd marks at bits → Ends marks at to bits
+whole_ends marks at to bits there fits may = record {
+  may = λ b e ge le m. may b e ge (omega arith) m;
+  below = λ k set.
+      ⊎_elim (λ lt. omega arith) (λ past. absurd (omega (arith, bit_at_above bits 64 k fits past))) (cases_lt k 64);
+}
+
+-- what was seen from the end tells of the offsets up to one of them
+pub rest_ends : (marks : Marks) (seen : SeenBack) (to bits : ℕ) → IsSeenBackOf marks seen → RestBack seen to bits
+    → Ends marks seen.at to bits
+rest_ends marks seen to bits is rest = record {
+  may = λ b e ge le m.
+      let near = rest.near in rest.kept (e - seen.at - 1) (omega arith) ∙ is b e ge (omega arith) m;
+  below = rest.below;
 }

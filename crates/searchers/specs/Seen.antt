@@ -1,9 +1,10 @@
 -- What a search sees of a text, and what it finds by that. Assumes nothing.
 use Rattle.std.specs.Prelude.{◌≡◌, ℕ, ◌+◌, ◌-◌, ◌<◌, ◌≤◌, IsTrue, List, None, Some, Option}
 use Rattle.std.specs.Int.{bit_at}
-use Rattle.searchers.specs.Marks.{Marks, Least, Greatest, Finds, OnBoundaries}
+use Rattle.searchers.specs.Marks.{Marks, Least, Greatest, Finds, FindsBack, OnBoundaries}
 use Rattle.searchers.specs.declared.mark.Mark.{Mark}
 use Rattle.searchers.specs.declared.seen.Seen.{Seen}
+use Rattle.searchers.specs.declared.seen.SeenBack.{SeenBack}
 
 -- of the offsets from `at` up to `end`, bit k is set where a mark begins at `at + k`, and maybe elsewhere
 abbrev pub MayBegin : Marks → (at end bits : ℕ) → Type 0
@@ -17,6 +18,11 @@ pub record Begins (marks : Marks) (at end bits : ℕ) : Type 0 where
 -- of the 64 offsets after `at`, bit k is set where a mark ends at `at + k + 1`, and maybe elsewhere
 abbrev pub MayEnd : Marks → (at bits : ℕ) → Type 0
 MayEnd marks at bits = (b e : ℕ) → at < e → e ≤ at + 64 → IsTrue (marks b e) → bit_at bits (e - at - 1) ≡ 1
+
+-- the same up to `to`, and no bit is set of an offset after it
+pub record Ends (marks : Marks) (at to bits : ℕ) : Type 0 where
+  pub may : (b e : ℕ) → at < e → e ≤ to → IsTrue (marks b e) → bit_at bits (e - at - 1) ≡ 1
+  pub below : (k : ℕ) → bit_at bits k ≡ 1 → at + k < to
 
 -- no mark begins from `at` up to `end`
 abbrev pub NoneBegins : Marks → (at end : ℕ) → Type 0
@@ -51,3 +57,20 @@ pub record Resumes (es : List (List ℕ)) (marks : Marks) (from : ℕ) (r : Opti
   pub value : Finds marks from r
   pub cut : OnBoundaries es r
   pub seen : IsSeenOf marks new
+
+-- what was seen from the end is so of these marks
+abbrev pub IsSeenBackOf : Marks → SeenBack → Type 0
+IsSeenBackOf marks seen = MayEnd marks seen.at seen.bits
+
+-- the bits that were seen from the end, of the offsets up to `to`
+pub record RestBack (seen : SeenBack) (to bits : ℕ) : Type 0 where
+  pub low : seen.at < to
+  pub near : to ≤ seen.at + 64
+  pub kept : (k : ℕ) → seen.at + k < to → bit_at bits k ≡ bit_at seen.bits k
+  pub below : (k : ℕ) → bit_at bits k ≡ 1 → seen.at + k < to
+
+-- what a search from the end, before `before`, answers and has seen then
+pub record ResumesBack (es : List (List ℕ)) (marks : Marks) (before : ℕ) (r : Option Mark) (new : SeenBack) : Type 0 where
+  pub value : FindsBack marks before r
+  pub cut : OnBoundaries es r
+  pub seen : IsSeenBackOf marks new

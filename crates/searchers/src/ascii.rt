@@ -4,11 +4,11 @@ ghost use Rattle.std.specs.List.{concat};
 ghost use Rattle.anystr.specs.Texts.{bytes_of};
 ghost use Rattle.searchers.specs.Ascii.{AsciiApart};
 ghost use Rattle.searchers.specs.Marks.{Bounded, Finds, FindsBack, OnBoundaries};
-ghost use Rattle.searchers.specs.Seen.{IsSeenOf, Resumes};
+ghost use Rattle.searchers.specs.Seen.{IsSeenOf, IsSeenBackOf, Resumes, ResumesBack};
 
 use super::mark::Mark;
-use super::scan::{Pattern, first_mark, last_mark, next_mark};
-use super::seen::Seen;
+use super::scan::{Pattern, first_mark, last_mark, next_mark, previous_mark};
+use super::seen::{Seen, SeenBack};
 use anystr::anystr::AnyStr;
 use anystr::bytes::Bytes;
 use text::Text;
@@ -81,4 +81,21 @@ pub fn last_ascii_mark<S: AsciiStr, P: AsciiPattern>(
 {
     text.ascii_apart();
     last_mark(pattern, text.as_bytes(), before)
+}
+
+/// What `last_ascii_mark` gives, where `seen` is what was seen of the same text from its end for the
+/// pattern, or nothing: it goes on from there.
+#[inline(always)]
+pub fn previous_ascii_mark<S: AsciiStr, P: AsciiPattern>(
+    pattern: &P,
+    text: &S,
+    before: usize,
+    seen: &mut SeenBack,
+) -> Option<Mark>
+    ensures { IsSeenBackOf (P.marks pattern.now (bytes_of S.AnyStr text.now)) seen.old
+        → ResumesBack (S.elements text.now) (P.marks pattern.now (bytes_of S.AnyStr text.now))
+        before result seen.new }
+{
+    text.ascii_apart();
+    previous_mark(pattern, text.as_bytes(), before, seen)
 }

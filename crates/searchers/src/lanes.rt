@@ -1,5 +1,5 @@
 // Bytes compared side by side: at which of 64 offsets some bytes stand, as bits.
-ghost use Rattle.std.specs.Prelude.{◌≡◌, ◌≢◌, ℕ, ◌+◌, ◌<◌, ◌≤◌, ◌==◌, if◌then◌else◌, length};
+ghost use Rattle.std.specs.Prelude.{◌≡◌, ◌≢◌, ℕ, ◌+◌, ◌-◌, ◌<◌, ◌≤◌, ◌==◌, if◌then◌else◌, length};
 ghost use Rattle.std.specs.Prelude.{bit_or, count_by, drop, slice_index, take};
 ghost use Rattle.std.specs.Int.{bit_at};
 ghost use Rattle.memchr.specs.Lanes.{HasLanes};
@@ -79,15 +79,38 @@ fn half_among(bytes: &[u8], at: usize, set: &[u8]) -> u32
     whole_among(bytes, start, set) >> (at - start)
 }
 
+// The bits of 32 offsets, and behind them those of the next 32.
+#[inline(always)]
+fn joined(front: u32, back: u32) -> u64
+    ensures front { (k : ℕ) → k < 32 → bit_at front k ≡ 1 → bit_at result k ≡ 1 }
+    ensures back { (k : ℕ) → 32 ≤ k → bit_at back (k - 32) ≡ 1 → bit_at result k ≡ 1 }
+{
+    front as u64 | ((back as u64) << HALF)
+}
+
+// What `places_among` gives near the end. A function of its own, so that the other way is short.
+#[cold]
+#[inline(never)]
+fn last_among(bytes: &[u8], at: usize, set: &[u8]) -> u64
+    ensures { Places (among set.now) bytes.now 64 at result }
+{
+    let front = half_among(bytes, at, set);
+    let back = half_among(bytes, at.saturating_add(HALF), set);
+    joined(front, back)
+}
+
 /// Where one of the bytes of `set` stands at one of the 64 offsets from `at` on: bit k is set where
 /// one does at `at + k`, and maybe elsewhere.
 #[inline(always)]
 pub fn places_among(bytes: &[u8], at: usize, set: &[u8]) -> u64
     ensures { Places (among set.now) bytes.now 64 at result }
 {
-    let front = half_among(bytes, at, set) as u64;
-    let back = half_among(bytes, at.saturating_add(HALF), set) as u64;
-    front | (back << HALF)
+    if bytes.len().saturating_sub(at) < LANES {
+        return last_among(bytes, at, set);
+    }
+    let front = whole_among(bytes, at, set);
+    let back = whole_among(bytes, at + HALF, set);
+    joined(front, back)
 }
 
 // How often the byte stands among the 32 from `at` on.

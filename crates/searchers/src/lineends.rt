@@ -6,12 +6,13 @@ ghost use Rattle.anystr.specs.Texts.{bytes_of};
 ghost use Rattle.searchers.specs.lineends.Lines.{line_end, line_end-lawful};
 ghost use Rattle.searchers.specs.lineends.OnText.{line-ends_on};
 
-use crate::ascii::{AsciiPattern, AsciiStr, first_ascii_mark, last_ascii_mark, next_ascii_mark};
+use crate::ascii::{AsciiPattern, AsciiStr, first_ascii_mark, last_ascii_mark};
+use crate::ascii::{next_ascii_mark, previous_ascii_mark};
 use crate::lanes::places_among;
 use crate::mark::Mark;
 use crate::scan::Pattern;
 use crate::searcher::{ReverseSearcher, Searcher};
-use crate::seen::Seen;
+use crate::seen::{Seen, SeenBack};
 
 /// A searcher whose marks are `\r\n`, `\r` that no `\n` follows, and `\n` that no `\r` precedes.
 #[derive(Clone, Copy)]
@@ -84,5 +85,10 @@ impl<S: AsciiStr> Searcher<S> for LineEnds {
 impl<S: AsciiStr> ReverseSearcher<S> for LineEnds {
     fn rfind(&self, text: &S, before: usize) -> Option<Mark> {
         last_ascii_mark(self, text, before)
+    }
+
+    #[inline(always)]
+    fn resume_back(&self, text: &S, before: usize, seen: &mut SeenBack) -> Option<Mark> {
+        previous_ascii_mark(self, text, before, seen)
     }
 }

@@ -2,11 +2,11 @@
 ghost use Rattle.std.specs.Prelude.{◌≡◌, ℕ, ◌+◌, ◌<◌, ◌≤◌, List, length};
 ghost use Rattle.searchers.specs.Marks.{Marks, Lawful, CutTimes, Finds, FindsBack, FindsOne};
 ghost use Rattle.searchers.specs.Seen.{IsSeenOf, MayBegin, MayEnd, Begins, NoneBegins, NoneEnds};
-ghost use Rattle.searchers.specs.Seen.{FindsWithin, FindsBackWithin};
+ghost use Rattle.searchers.specs.Seen.{FindsWithin, FindsBackWithin, Ends, IsSeenBackOf};
 
 use super::lanes::{LANES, highest, lowest, without};
 use super::mark::Mark;
-use super::seen::Seen;
+use super::seen::{Seen, SeenBack};
 
 /// What is looked for in bytes: where marks may begin and end, and what stands there.
 pub trait Pattern {
@@ -181,9 +181,9 @@ pub(crate) fn count_from<P: Pattern>(pattern: &P, bytes: &[u8], from: usize) -> 
 // The last mark that ends where one may, by the bits of the offsets after `at`.
 #[inline(always)]
 fn last_of<P: Pattern>(pattern: &P, bytes: &[u8], at: usize, ends: u64) -> Option<Mark>
-    requires within { at + 64 ≤ length bytes.now }
-    requires bits { MayEnd (P.marks pattern.now bytes.now) at ends }
-    ensures { FindsBackWithin (P.marks pattern.now bytes.now) at (at + 64) result }
+    requires { at ≤ length bytes.now }
+    ensures { (to : ℕ) → Ends (P.marks pattern.now bytes.now) at to ends
+        → FindsBackWithin (P.marks pattern.now bytes.now) at to result }
 {
     let mut left = ends;
     while left != 0 {
@@ -197,25 +197,41 @@ fn last_of<P: Pattern>(pattern: &P, bytes: &[u8], at: usize, ends: u64) -> Optio
     None
 }
 
-/// The mark with the greatest end at or before the offset `before`; none exactly where there is
-/// none.
-// Not one function with the first: it asks the pattern other questions, of other offsets.
+// The offset down from `at` to which no mark ends, where these bits were seen of those after it. Where
+// nothing may end for a while, the pattern skips.
 #[inline(always)]
-pub fn last_mark<P: Pattern>(pattern: &P, bytes: &[u8], before: usize) -> Option<Mark>
-    ensures { FindsBack (P.marks pattern.now bytes.now) before result }
+fn look_down<P: Pattern>(pattern: &P, bytes: &[u8], at: usize, ends: u64) -> usize
+    ensures high { result ≤ at }
+    ensures passed { NoneEnds (P.marks pattern.now bytes.now) result at }
 {
-    let mut to = before.min(bytes.len());
+    if ends == 0 {
+        pattern.skip_back(bytes, at)
+    } else {
+        at
+    }
+}
+
+// The mark with the greatest end at or before the offset `before`, by new looks.
+fn look_back<P: Pattern>(
+    pattern: &P,
+    bytes: &[u8],
+    before: usize,
+    seen: &mut SeenBack,
+) -> Option<Mark>
+    requires { before ≤ length bytes.now }
+    ensures value { FindsBack (P.marks pattern.now bytes.now) before result }
+    ensures seen { IsSeenBackOf (P.marks pattern.now bytes.now) seen.old
+        → IsSeenBackOf (P.marks pattern.now bytes.now) seen.new }
+{
+    let mut to = before;
     while LANES <= to {
         let at = to - LANES;
         let ends = pattern.ends(bytes, at);
+        *seen = SeenBack { at, bits: ends };
         if let Some(mark) = last_of(pattern, bytes, at, ends) {
             return Some(mark);
         }
-        to = if ends == 0 {
-            pattern.skip_back(bytes, at)
-        } else {
-            at
-        };
+        to = look_down(pattern, bytes, at, ends);
     }
     for end in (1..=to).rev() {
         if let Some(start) = pattern.mark_to(bytes, end) {
@@ -223,4 +239,39 @@ pub fn last_mark<P: Pattern>(pattern: &P, bytes: &[u8], before: usize) -> Option
         }
     }
     None
+}
+
+/// The mark with the greatest end at or before the offset `before`; none exactly where there is
+/// none. So it is where `seen` is what was seen of the same bytes for the pattern; it goes on from
+/// there.
+// Not one function with the first: it asks the pattern other questions, of other offsets.
+#[inline(always)]
+pub fn previous_mark<P: Pattern>(
+    pattern: &P,
+    bytes: &[u8],
+    before: usize,
+    seen: &mut SeenBack,
+) -> Option<Mark>
+    ensures value { IsSeenBackOf (P.marks pattern.now bytes.now) seen.old
+        → FindsBack (P.marks pattern.now bytes.now) before result }
+    ensures seen { IsSeenBackOf (P.marks pattern.now bytes.now) seen.old
+        → IsSeenBackOf (P.marks pattern.now bytes.now) seen.new }
+{
+    let to = before.min(bytes.len());
+    let Some(ends) = seen.rest(to) else {
+        return look_back(pattern, bytes, to, seen);
+    };
+    if let Some(mark) = last_of(pattern, bytes, seen.at, ends) {
+        return Some(mark);
+    }
+    look_back(pattern, bytes, seen.at, seen)
+}
+
+/// The mark with the greatest end at or before the offset `before`; none exactly where there is
+/// none.
+#[inline(always)]
+pub fn last_mark<P: Pattern>(pattern: &P, bytes: &[u8], before: usize) -> Option<Mark>
+    ensures { FindsBack (P.marks pattern.now bytes.now) before result }
+{
+    previous_mark(pattern, bytes, before, &mut SeenBack::nothing())
 }

@@ -3,10 +3,10 @@ ghost use Rattle.std.specs.Prelude.{ℕ, List, length, IfSome};
 ghost use Rattle.anystr.specs.Texts.{bytes_of};
 ghost use Rattle.searchers.specs.Marks.{Marks, Lawful, CutTimes, Finds, FindsBack, OnBoundaries};
 ghost use Rattle.searchers.specs.Marks.{AllOfLength};
-ghost use Rattle.searchers.specs.Seen.{IsSeenOf, Resumes};
+ghost use Rattle.searchers.specs.Seen.{IsSeenOf, IsSeenBackOf, Resumes, ResumesBack};
 
 use super::mark::Mark;
-use super::seen::Seen;
+use super::seen::{Seen, SeenBack};
 use anystr::anystr::AnyStr;
 
 /// What looks for marks in texts of a kind: an implementer says what its marks are, and finds the
@@ -80,4 +80,15 @@ pub trait ReverseSearcher<S: AnyStr>: Searcher<S> {
     fn rfind(&self, text: &S, before: usize) -> Option<Mark>
         ensures value { FindsBack (Self.marks self.now (S.elements text.now)) before result }
         ensures cut { OnBoundaries (S.elements text.now) result };
+
+    /// What `rfind` gives, where `seen` is what the searcher has seen of the same text from its
+    /// end, or nothing: it goes on from there.
+    fn resume_back(&self, text: &S, before: usize, seen: &mut SeenBack) -> Option<Mark>
+        ensures { IsSeenBackOf (Self.marks self.now (S.elements text.now)) seen.old
+            → ResumesBack (S.elements text.now) (Self.marks self.now (S.elements text.now)) before
+            result seen.new }
+    {
+        let _ = seen;
+        self.rfind(text, before)
+    }
 }

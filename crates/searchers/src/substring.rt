@@ -6,15 +6,15 @@ ghost use Rattle.anystr.specs.Elements.{Occurs};
 ghost use Rattle.anystr.specs.Refusals.{PassesIf};
 ghost use Rattle.anystr.specs.Texts.{bytes_of};
 ghost use Rattle.searchers.specs.Marks.{CutTimes, Finds, FindsBack};
-ghost use Rattle.searchers.specs.Seen.{IsSeenOf};
+ghost use Rattle.searchers.specs.Seen.{IsSeenOf, IsSeenBackOf};
 ghost use Rattle.searchers.specs.substring.Occurrences.{occurrence, occurrence-lawful};
 ghost use Rattle.searchers.specs.substring.Substrings.{needle_of, needle_bytes};
 
 use crate::lanes::{LANES, places_among, times};
 use crate::mark::Mark;
-use crate::scan::{Pattern, count_from, last_mark, next_mark};
+use crate::scan::{Pattern, count_from, next_mark, previous_mark};
 use crate::searcher::{ReverseSearcher, Searcher};
-use crate::seen::Seen;
+use crate::seen::{Seen, SeenBack};
 use anystr::anystr::AnyStr;
 use anystr::refusal::Refusal;
 use memchr::memmem;
@@ -174,11 +174,19 @@ fn next_occurrence(needle: &[u8], bytes: &[u8], from: usize, seen: &mut Seen) ->
 
 // The last occurrence that ends at or before the offset `before`.
 #[inline(always)]
-fn last_occurrence(needle: &[u8], bytes: &[u8], before: usize) -> Option<Mark>
-    ensures { FindsBack (occurrence needle.now bytes.now) before result }
+fn previous_occurrence(
+    needle: &[u8],
+    bytes: &[u8],
+    before: usize,
+    seen: &mut SeenBack,
+) -> Option<Mark>
+    ensures value { IsSeenBackOf (occurrence needle.now bytes.now) seen.old
+        → FindsBack (occurrence needle.now bytes.now) before result }
+    ensures seen { IsSeenBackOf (occurrence needle.now bytes.now) seen.old
+        → IsSeenBackOf (occurrence needle.now bytes.now) seen.new }
 {
     if needle.len() <= LANES {
-        return last_mark(&Needle { bytes: needle }, bytes, before);
+        return previous_mark(&Needle { bytes: needle }, bytes, before, seen);
     }
     let start = memmem::rfind(&bytes[..before.min(bytes.len())], needle)?;
     Some(Mark {
@@ -240,6 +248,16 @@ impl<S: AnyStr> ReverseSearcher<S> for Substring<S> {
     #[inline(always)]
     #[tactic(auto, using(crate::proofs::substring::OnText::found_back_on))]
     fn rfind(&self, text: &S, before: usize) -> Option<Mark> {
-        last_occurrence(self.needle.as_bytes(), text.as_bytes(), before)
+        previous_occurrence(
+            self.needle.as_bytes(),
+            text.as_bytes(),
+            before,
+            &mut SeenBack::nothing(),
+        )
+    }
+
+    #[inline(always)]
+    fn resume_back(&self, text: &S, before: usize, seen: &mut SeenBack) -> Option<Mark> {
+        previous_occurrence(self.needle.as_bytes(), text.as_bytes(), before, seen)
     }
 }

@@ -2,10 +2,12 @@
 ghost use Rattle.std.specs.Prelude.{◌≡◌, ◌+◌, ◌≤◌, IsTrue, ⊤};
 ghost use Rattle.anystr.specs.Elements.{on_boundary};
 ghost use Rattle.anystr.specs.Limits.{most_bytes};
+ghost use Rattle.searchers.specs.Seen.{IsSeenBackOf};
 
 use anystr::anystr::AnyStr;
 use cutters::progress::Progress;
 use searchers::searcher::ReverseSearcher;
+use searchers::seen::SeenBack;
 use std::alloc::AllocError;
 
 pub mod calls;
@@ -21,8 +23,11 @@ pub struct BackCutter<S: AnyStr, F: ReverseSearcher<S>> {
     searcher: F,
     bound: i64,
     progress: Progress,
+    // what the searcher has seen of the text
+    seen: SeenBack,
     ghost placed: { IsTrue (on_boundary (S.elements text) progress.place) },
     ghost few: { progress.made + progress.place ≤ most_bytes },
+    ghost looked: { IsSeenBackOf (F.Searcher.marks searcher (S.elements text)) seen },
 }
 
 // Not derived: Rattle derives no clone of a struct with a ghost field whose parameters may be no

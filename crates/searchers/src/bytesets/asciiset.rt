@@ -8,11 +8,12 @@ ghost use Rattle.searchers.specs.bytesets.Sets.{IsSetOf, AllBelow, AllAscii, Asc
 ghost use Rattle.searchers.specs.bytesets.Sets.{single_bytes, single_bytes-lawful};
 
 use super::byteset::ByteSet;
-use crate::ascii::{AsciiPattern, AsciiStr, first_ascii_mark, last_ascii_mark, next_ascii_mark};
+use crate::ascii::{AsciiPattern, AsciiStr, first_ascii_mark, last_ascii_mark};
+use crate::ascii::{next_ascii_mark, previous_ascii_mark};
 use crate::mark::Mark;
 use crate::scan::Pattern;
 use crate::searcher::{ReverseSearcher, Searcher};
-use crate::seen::Seen;
+use crate::seen::{Seen, SeenBack};
 use anystr::refusal::Refusal;
 
 const FIRST_NON_ASCII: u8 = 128;
@@ -123,5 +124,10 @@ impl<S: AsciiStr> Searcher<S> for AsciiSet {
 impl<S: AsciiStr> ReverseSearcher<S> for AsciiSet {
     fn rfind(&self, text: &S, before: usize) -> Option<Mark> {
         last_ascii_mark(self, text, before)
+    }
+
+    #[inline(always)]
+    fn resume_back(&self, text: &S, before: usize, seen: &mut SeenBack) -> Option<Mark> {
+        previous_ascii_mark(self, text, before, seen)
     }
 }

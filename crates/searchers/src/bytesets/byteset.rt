@@ -7,9 +7,9 @@ ghost use Rattle.searchers.specs.bytesets.Sets.{single_bytes, single_bytes-lawfu
 
 use crate::lanes::places_among;
 use crate::mark::Mark;
-use crate::scan::{Pattern, first_mark, last_mark, next_mark};
+use crate::scan::{Pattern, first_mark, last_mark, next_mark, previous_mark};
 use crate::searcher::{ReverseSearcher, Searcher};
-use crate::seen::Seen;
+use crate::seen::{Seen, SeenBack};
 use anystr::anystr::AnyStr;
 use anystr::bytes::Bytes;
 
@@ -151,5 +151,15 @@ impl<'a> ReverseSearcher<Bytes<'a>> for ByteSet {
     #[tactic(auto, using(crate::proofs::bytesets::OnBytes::bytes_on))]
     fn rfind(&self, text: &Bytes<'a>, before: usize) -> Option<Mark> {
         last_mark(self, text.as_bytes(), before)
+    }
+
+    #[inline(always)]
+    fn resume_back(
+        &self,
+        text: &Bytes<'a>,
+        before: usize,
+        seen: &mut SeenBack,
+    ) -> Option<Mark> {
+        previous_mark(self, text.as_bytes(), before, seen)
     }
 }

@@ -2,8 +2,10 @@
 ghost use Rattle.std.specs.Prelude.{◌≡◌, length, IfSome};
 ghost use Rattle.std.specs.Iterator.{item_count};
 ghost use Rattle.searchers.specs.Marks.{OnBoundaries};
+ghost use Rattle.searchers.specs.Seen.{IsSeenBackOf};
 ghost use Rattle.cuts.specs.Cuts.{at_opening};
-ghost use Rattle.bytesinner.specs.splits.Back.{state, left_pieces, IsOn, BackStep, CutsNext};
+ghost use Rattle.bytesinner.specs.splits.Back.{opening, state, left_pieces, IsOn, BackStep};
+ghost use Rattle.bytesinner.specs.splits.Back.{CutsNext};
 ghost use Rattle.bytesinner.specs.splits.Yields.{next-yields, counts_down};
 
 use super::BackCutter;
@@ -14,6 +16,7 @@ use cutters::pieces::source::Pieces;
 use cutters::progress::Progress;
 use searchers::mark::Mark;
 use searchers::searcher::{ReverseSearcher, Searcher};
+use searchers::seen::SeenBack;
 
 impl<S: AnyStr, F: ReverseSearcher<S>> BackCutter<S, F> {
     /// A cutter from the end on the whole text, with no cut made. `bound` is the most cuts that it
@@ -28,20 +31,24 @@ impl<S: AnyStr, F: ReverseSearcher<S>> BackCutter<S, F> {
             searcher,
             bound,
             progress: Progress::from_place(place),
+            seen: SeenBack::nothing(),
         }
     }
 
-    // The mark that is cut next, if one is.
+    // The mark that is cut next, if one is. It goes on from what was seen of the text.
     #[inline(always)]
-    fn next_mark(&self) -> Option<Mark>
+    fn next_mark(&self, seen: &mut SeenBack) -> Option<Mark>
+        requires { IsSeenBackOf (opening self.now).marks seen.old }
         ensures value { CutsNext self.now result }
         ensures cut { OnBoundaries (S.elements self.now.text) result }
+        ensures seen { IsSeenBackOf (opening self.now).marks seen.new }
     {
         if !fewer(self.progress.made, self.bound) {
             return None;
         }
         let text = self.text;
-        self.searcher.rfind(&text, self.progress.place)
+        self.searcher
+            .resume_back(&text, self.progress.place, seen)
     }
 
     // The number of pieces that are left, where a count from the front tells it: before the first
@@ -73,7 +80,10 @@ impl<S: AnyStr, F: ReverseSearcher<S> + Drop> Iterator for BackCutter<S, F> {
             return None;
         }
         let end = self.progress.place;
-        let Some(mark) = self.next_mark() else {
+        let mut seen = self.seen;
+        let mark = self.next_mark(&mut seen);
+        self.seen = seen;
+        let Some(mark) = mark else {
             self.progress.place = 0;
             self.progress.spent = true;
             return Some(Piece { start: 0, end });

@@ -14,7 +14,7 @@ returns-then-not-fewer g c =
     let k = c.args.self.now in
     let fits : SFits w64 k.bound = search rules in
     let used = ap (fewer k.progress.made) (sym (to_z-of_z w64 k.bound fits)) ∙ sym c.if-not-fewer.ensures in
-    record { value = inl used; cut = tt }
+    record { value = inl used; cut = tt; seen = c.requires }
 
 found : {S F C : Type 0} {s : AnyStr.Ghosts S C} {f : Searcher.Ghosts F S C} (c : BackCutter S F C s f)
     → fewer c.progress.made c.bound ≡ true
@@ -27,4 +27,5 @@ returns g c =
     let k = c.args.self.now in
     let fits : SFits w64 k.bound = search rules in
     let more = ap (fewer k.progress.made) (sym (to_z-of_z w64 k.bound fits)) ∙ sym c.if-not-fewer.ensures in
-    record { value = found k more c.rfind.result c.rfind.ensures.value; cut = c.rfind.ensures.cut }
+    let step = c.resume_back.ensures c.requires in
+    record { value = found k more c.resume_back.result step.value; cut = step.cut; seen = step.seen }

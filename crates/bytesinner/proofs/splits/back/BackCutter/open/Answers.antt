@@ -19,6 +19,7 @@ invariant_of-result g c =
     record {
       placed = boundary_true es _ (subst (Boundary es) (sym place) (end_on es));
       few = omega (arith, g.S.AnyStr.few c.args.text);
+      looked = c.nothing.ensures (g.F.Searcher.marks c.args.searcher es);
     }
 
 pub returns-clause-state : goal.returns-clause-state

@@ -11,7 +11,7 @@ use Rattle.bytesinner.proofs.splits.back.calls.BackCutterIterator.next.Goals as 
 pub invariant_of-self : goal.invariant_of-self
 invariant_of-self g c =
     let es = g.S.AnyStr.elements c.args.self.now.text in
-    record { placed = boundary_true es 0 (0, refl); few = omega arith }
+    record { placed = boundary_true es 0 (0, refl); few = omega arith; looked = c.next_mark-mark.ensures.seen }
 
 pub invariant_of-self-2 : goal.invariant_of-self-2
 invariant_of-self-2 g c =
@@ -20,7 +20,11 @@ invariant_of-self-2 g c =
     let found = c.in-Some.ensures.value.1 in
     let long = (g.met.F.Searcher.lawful k.searcher k.text).nonempty mark.start mark.end found.is in
     let es = g.S.AnyStr.elements k.text in
-    record { placed = boundary_true es mark.start c.in-Some.ensures.cut.0; few = omega (arith, found.ahead) }
+    record {
+      placed = boundary_true es mark.start c.in-Some.ensures.cut.0;
+      few = omega (arith, found.ahead);
+      looked = c.next_mark-mark.ensures.seen;
+    }
 
 pub returns-in_default-clause-steps : goal.returns-in_default-clause-steps
 returns-in_default-clause-steps g c =

@@ -2,10 +2,10 @@ use Rattle.std.proofs.Common.{◌≡◌, ◌<◌, ◌-◌, None, Some, length, t
 use Rattle.searchers.specs.Marks.{FindsBack}
 use Rattle.searchers.specs.substring.Occurrences.{occurrence, fits}
 use Rattle.searchers.proofs.substring.Far.{found_back}
-use Rattle.searchers.proofs.substring.last_occurrence.Goals as goal
+use Rattle.searchers.proofs.substring.previous_occurrence.Goals as goal
 
-pub returns-in_err-start : goal.returns-in_err-start
-returns-in_err-start c =
+pub returns-in_err-start-clause-value : goal.returns-in_err-start-clause-value
+returns-in_err-start-clause-value c of =
     let n = c.args.needle.now in
     let bs = c.args.bytes.now in
     let end = c.min.result in
@@ -16,8 +16,8 @@ returns-in_err-start c =
     subst (FindsBack (occurrence n bs) c.args.before) (sym c.from_residual.ensures)
     (λ b e le m. let fit = fits n bs b e m in none b e (omega arith) m)
 
-pub returns : goal.returns
-returns c =
+pub returns-clause-value : goal.returns-clause-value
+returns-clause-value c of =
     let n = c.args.needle.now in
     let bs = c.args.bytes.now in
     let end = c.min.result in

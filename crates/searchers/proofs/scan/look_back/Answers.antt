@@ -1,0 +1,45 @@
+use Rattle.std.proofs.Common.{ℕ, ◌-◌, Some, arith}
+use Rattle.searchers.proofs.Found.{found_earlier, none_back, whole_ends}
+use Rattle.searchers.proofs.scan.look_back.Goals as goal
+
+pub loop-to-init : goal.loop-to-init
+loop-to-init g c = (c.requires, omega arith, λ b e past le m. absurd (omega arith), λ of. of)
+
+pub loop-to-preserved : goal.loop-to-preserved
+loop-to-preserved g c =
+    let marks = g.P.Pattern.marks c.args.pattern.now c.args.bytes.now in
+    let before = c.args.before in
+    let to = c.loop-to.to in
+    let at : ℕ = to - 64 in
+    let down = c.look_down-to.result in
+    let inv = c.loop-to.invariant in
+    let bits = c.ends-ends.result in
+    let looked = whole_ends marks at to bits (omega arith) c.ends-ends.type_inv c.ends-ends.ensures in
+    let none = none_back marks at to before inv.2 (c.in_default.ensures to looked) in (
+      omega (arith, inv.0, c.look_down-to.ensures.high),
+      omega (arith, inv.1, c.look_down-to.ensures.high),
+      none_back marks down at before none c.look_down-to.ensures.passed,
+      λ of. c.ends-ends.ensures,
+    )
+
+pub returns-in-Some : goal.returns-in-Some
+returns-in-Some g c =
+    let marks = g.P.Pattern.marks c.args.pattern.now c.args.bytes.now in
+    let inv = c.loop-to.invariant in
+    let to = c.loop-to.to in
+    let at : ℕ = to - 64 in
+    let bits = c.ends-ends.result in
+    let looked = whole_ends marks at to bits (omega arith) c.ends-ends.type_inv c.ends-ends.ensures in
+    record {
+      value = found_earlier marks c.args.before to (Some c.in-Some.mark) inv.1 inv.2 (c.in-Some.ensures to looked);
+      seen = λ of. c.ends-ends.ensures;
+    }
+
+pub returns : goal.returns
+returns g c =
+    record {
+      value = λ b d le m.
+          let some = (g.P.Pattern.lawful c.args.pattern.now c.args.bytes.now).nonempty b d m in
+          c.loop-end.invariant b d (omega arith) le m;
+      seen = c.loop-to.invariant.3;
+    }

@@ -1,0 +1,19 @@
+use Rattle.anystr.specs.Texts.{bytes_of}
+use Rattle.searchers.specs.substring.Occurrences.{occurrence}
+use Rattle.searchers.specs.substring.Substrings.{needle_of}
+use Rattle.searchers.proofs.substring.OnText.{found_back_on}
+use Rattle.searchers.proofs.substring.SubstringReverseSearcher.rfind.Goals as goal
+
+pub returns-clause-value : goal.returns-clause-value
+returns-clause-value g c =
+    let n = c.as_bytes.result.now in
+    let bs = c.as_bytes-2.result.now in
+    rw (c.as_bytes.ensures, c.as_bytes-2.ensures) at
+    (c.previous_occurrence.ensures.value (c.nothing.ensures (occurrence n bs)))
+
+pub returns-clause-cut : goal.returns-clause-cut
+returns-clause-cut g c =
+    let es = g.S.AnyStr.elements c.args.text.now in
+    let needle = needle_of c.args.self.now in
+    found_back_on es (bytes_of g.S.AnyStr needle) (g.S.AnyStr.whole c.args.text.now needle) c.args.before
+    c.previous_occurrence.result (returns-clause-value g c)
