@@ -70,8 +70,8 @@ impl<S: AnyStr> Replacement<S> {
             ≡ gained (T.contents tray.old) (copies_spread S.AnyStr self.now) }
         ensures same_loan { T.loan tray.new ≡ T.loan tray.old }
     {
-        // the interface of texts has no iterator over elements, only the element at an offset
         let mut gather = Gather::new(tray);
+        // the interface of texts has no iterator over elements, only the element at an offset
         let mut place = 0;
         for _ in 0..copies {
             let _ = gather.push_str(&self.to);

@@ -1,6 +1,6 @@
 -- A tray while bytes are poured into it.
-use Rattle.std.proofs.Common.{◌≡◌, ℕ, ◌≤◌, Bool, true, false, cond, List, [], ◌++◌, length, drop, Ok, Result, ap, ◌∙◌, arith}
-use Rattle.std.proofs.Common.{length-append, length-drop}
+use Rattle.std.proofs.Common.{◌≡◌, ℕ, ◌≤◌, Bool, true, false, cond, List, [], ◌++◌, length, drop, Ok, Result, ap, ◌∙◌}
+use Rattle.std.proofs.Common.{arith, length-append, length-drop}
 use Rattle.trays.specs.Trays.{Contents, gained, IsFilled}
 use Rattle.trays.proofs.Gains.{gained-append, took}
 

@@ -42,8 +42,8 @@ fn write_few(batch: &mut [u8], len: usize, bytes: &[u8], n: usize)
     }
 }
 
-// The same, of any number. Few go as a whole stride, where there is one: what it writes past them is
-// no part of the batch.
+// The same, of any number. Few go as a whole stride, where there is one: what it writes past them
+// is no part of the batch.
 #[inline(always)]
 pub(super) fn write_part(batch: &mut [u8], len: usize, bytes: &[u8], n: usize)
     requires within { n ≤ length bytes.now }

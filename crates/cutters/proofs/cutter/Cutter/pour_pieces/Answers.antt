@@ -37,7 +37,8 @@ loop-piece-preserved g c =
       ap length c.gap_after.ensures,
       gap_short after.progress.spent to,
     ) in
-    let made : concat (singles (byte_list c.new.result)) ≡ gap = ap concat (c.new.ensures.given few) ∙ concat-singles gap in
+    let made : concat (singles (byte_list c.new.result)) ≡ gap =
+    ap concat (c.new.ensures.given few) ∙ concat-singles gap in
     let piece = took_next _ (gap ++ left) _ (coded c.push_part.result) parts inv.poured c.push_part.ensures.fills in
     let one = gave_on k here after _ law inv.same c.in-Some.ensures.step in
     record {
