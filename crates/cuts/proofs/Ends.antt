@@ -25,7 +25,8 @@ turned : (marks other : Marks) (len : ℕ) → ((a e : ℕ) → IsTrue (marks a 
     → (from to n : ℕ) → Fit marks from to n → Fit other (len - to) (len - from) n
 turned marks other len over from to zero fit = omega arith
 turned marks other len over from to (suc n) (a, e, ge, is, fit) =
-    one_behind other (len - to) (len - e) (len - a) (len - from) n (turned marks other len over e to n fit) (over a e is)
+    one_behind other (len - to) (len - e) (len - a) (len - from) n (turned marks other len over e to n fit)
+    (over a e is)
     (omega arith)
 
 -- the marks that are cut fit into the text
@@ -69,7 +70,10 @@ module _ (marks : Marks) (len k : ℕ) (law : Lawful marks len) (even : AllOfLen
       let to_back : Fit (mirror marks len) 0 len n =
       rw (all, none) at
       (turned marks (mirror marks len) len
-      (λ a e is. let long = law.nonempty a e is in let in_it = law.within a e is in seen marks len a e (omega arith) in_it is)
+      (λ a e is.
+      let long = law.nonempty a e is in
+      let in_it = law.within a e is in
+      seen marks len a e (omega arith) in_it is)
       0 len n (cut_fit marks len law 0 n (omega arith) front)) in
       omega (
         arith,

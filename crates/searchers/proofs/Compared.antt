@@ -1,5 +1,6 @@
 -- How often a byte stands among 32, by the bits that tell where.
-use Rattle.std.proofs.Common.{◌≡◌, ℕ, ◌+◌, ◌%◌, ◌^◌, ◌≤◌, List, cond, eqb, sym, count_by, take, drop, length, ◌++◌, map, replicate, ap, ◌∙◌, arith, w8}
+use Rattle.std.proofs.Common.{◌≡◌, ℕ, ◌+◌, ◌%◌, ◌^◌, ◌≤◌, List, cond, eqb, sym, count_by, take, drop, length, ◌++◌}
+use Rattle.std.proofs.Common.{map, replicate, ap, ◌∙◌, arith, w8}
 use Rattle.std.proofs.lemmas.List.{take-take, drop-take, take-append-drop}
 use Rattle.std.proofs.lemmas.Simd.{length-chunk, bitmask_splat, ones-mask_l}
 use Rattle.std.specs.Int.Count.{ones}
@@ -20,14 +21,18 @@ module _ (bs : List ℕ) (at b : ℕ) (room : at + 32 ≤ length bs) where
   compared-ones = ap ones is ∙ ones-mask_l (λ x. eqb x b) (chunk at 32 bs)
 
   pub compared-few : ones compared ≤ 32
-  compared-few = omega (arith, compared-ones, count_by-le-length (λ x. x == b) (take 32 (drop at bs)), length-chunk at 32 bs room)
+  compared-few =
+      let few = count_by-le-length (λ x. x == b) (take 32 (drop at bs)) in
+      omega (arith, compared-ones, few, length-chunk at 32 bs room)
 
 -- the times in 32 bytes more
-pub times_more : (bs : List ℕ) (b at n m : ℕ) → n ≡ count_by (λ x. x == b) (take at bs) → m ≡ count_by (λ x. x == b) (take 32 (drop at bs)) → n + m ≡ count_by (λ x. x == b) (take (at + 32) bs)
+pub times_more : (bs : List ℕ) (b at n m : ℕ) → n ≡ count_by (λ x. x == b) (take at bs)
+    → m ≡ count_by (λ x. x == b) (take 32 (drop at bs)) → n + m ≡ count_by (λ x. x == b) (take (at + 32) bs)
 times_more bs b at n m p q =
     let front : take at (take (at + 32) bs) ≡ take at bs = take-take at (at + 32) bs (omega arith) in
     let back : drop at (take (at + 32) bs) ≡ take 32 (drop at bs) = drop-take at 32 bs in
-    let whole : take (at + 32) bs ≡ take at bs ++ take 32 (drop at bs) = sym (take-append-drop at (take (at + 32) bs)) ∙ (λ i. front i ++ back i) in
+    let whole : take (at + 32) bs ≡ take at bs ++ take 32 (drop at bs) =
+    sym (take-append-drop at (take (at + 32) bs)) ∙ (λ i. front i ++ back i) in
     let counts = sum_by-append (λ x. cond (x == b) 1 0) (take at bs) (take 32 (drop at bs)) in
     let e = ap (count_by (λ x. x == b)) whole in
     omega arith

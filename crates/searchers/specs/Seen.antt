@@ -70,7 +70,8 @@ pub record RestBack (seen : SeenBack) (to bits : ℕ) : Type 0 where
   pub below : (k : ℕ) → bit_at bits k ≡ 1 → seen.at + k < to
 
 -- what a search from the end, before `before`, answers and has seen then
-pub record ResumesBack (es : List (List ℕ)) (marks : Marks) (before : ℕ) (r : Option Mark) (new : SeenBack) : Type 0 where
+pub record ResumesBack (es : List (List ℕ)) (marks : Marks) (before : ℕ) (r : Option Mark) (new : SeenBack)
+    : Type 0 where
   pub value : FindsBack marks before r
   pub cut : OnBoundaries es r
   pub seen : IsSeenBackOf marks new

@@ -115,7 +115,8 @@ filled-front {xs} {ys} {m} {n} {list} {part} room same l f =
     subst (λ (qs : List Span). Filled qs list (part ++ drop n list)) (λ i. take (t i) (same i)) whole
 
 -- what both calls have done before a place is widened: the runs are written that are wanted, in the room that was given
-pub record Begun (rs : List Span) (bound : ℤ) (total a m n : ℕ) (ys : List Span) (list list' : List Place) : Type 0 where
+pub record Begun (rs : List Span) (bound : ℤ) (total a m n : ℕ) (ys : List Span) (list list' : List Place)
+    : Type 0 where
   pub shares : Wanted rs bound total a m
   pub room : Given m n list
   pub filled : Filled (take n ys) list list'

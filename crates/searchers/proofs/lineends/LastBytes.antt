@@ -10,5 +10,6 @@ last bs a e (lone_cr x y z) = ap (among (13 ∷ 10 ∷ [])) (ap (slice_index bs)
 last bs a e (lone_lf x y z) = ap (among (13 ∷ 10 ∷ [])) (ap (slice_index bs) (omega arith) ∙ x)
 
 -- it is a carriage return or a line feed
-pub last_byte : (bs : List ℕ) (a e : ℕ) → IsTrue (line_end bs a e) → among (13 ∷ 10 ∷ []) (slice_index bs (e - 1)) ≡ true
+pub last_byte : (bs : List ℕ) (a e : ℕ) → IsTrue (line_end bs a e)
+    → among (13 ∷ 10 ∷ []) (slice_index bs (e - 1)) ≡ true
 last_byte bs a e m = last bs a e (line_end-is bs a e m)

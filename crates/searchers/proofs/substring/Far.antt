@@ -1,5 +1,6 @@
 -- What a search of the rest of some bytes, or of their front, finds of a needle.
-use Rattle.std.proofs.Common.{◌≡◌, ℕ, ◌+◌, ◌-◌, ◌<◌, ◌≤◌, IsTrue, List, Option, None, Some, MatchOption, length, take, drop}
+use Rattle.std.proofs.Common.{◌≡◌, ℕ, ◌+◌, ◌-◌, ◌<◌, ◌≤◌, IsTrue, List, Option, None, Some, MatchOption, length, take}
+use Rattle.std.proofs.Common.{drop}
 use Rattle.std.proofs.Common.{refl, sym, ap, ◌∙◌, ⊎_elim, arith, length-drop, length-take}
 use Rattle.std.proofs.lemmas.Bool.{cases_lt}
 use Rattle.std.specs.List.{slice_range}
@@ -81,5 +82,6 @@ module _ (n bs : List ℕ) (some : 0 < length n) where
       greatest = λ b e le m.
           let fit = fits n bs b e m in
           let o = in_front b e le m in
-          ⊎_elim (λ lt. absurd (h.0.after b (omega arith) (omega (arith, o.fits)) o)) (λ ge. ge) (cases_lt (i + length n) e);
+          ⊎_elim (λ lt. absurd (h.0.after b (omega arith) (omega (arith, o.fits)) o)) (λ ge. ge)
+              (cases_lt (i + length n) e);
     }

@@ -20,7 +20,8 @@ loop-left-preserved g c =
                 let there : c.args.at + c.highest-bit.result + 1 ≡ e = omega arith in
                 absurd (c.in_default.ensures b (subst (λ (p : ℕ). IsTrue (marks b p)) (omega arith) m)))
                 (λ apart. c.without-left.ensures.kept k
-                (⊎_elim (λ lt. lt) (λ past. absurd (omega (arith, bit_at_above left 64 k small past))) (cases_lt k 64)) apart ∙ set)
+                (⊎_elim (λ lt. lt) (λ past. absurd (omega (arith, bit_at_above left 64 k small past))) (cases_lt k 64))
+                apart ∙ set)
                 (cases_eq k c.highest-bit.result);
             below = λ k set. before.below k (c.without-left.ensures.no_more k set);
           },

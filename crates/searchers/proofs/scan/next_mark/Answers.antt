@@ -5,7 +5,12 @@ use Rattle.searchers.proofs.scan.next_mark.Goals as goal
 pub loop-seen-init : goal.loop-seen-init
 loop-seen-init g c =
     let begun = c.bits_from-left.ensures in
-    (omega arith, begun.low, omega (arith, begun.near), λ of. let seen = begun.seen of in (seen.0, seen.1, λ b e ge lt m. absurd (omega arith)))
+    (
+      omega arith,
+      begun.low,
+      omega (arith, begun.near),
+      λ of. let seen = begun.seen of in (seen.0, seen.1, λ b e ge lt m. absurd (omega arith)),
+    )
 
 pub loop-seen-preserved : goal.loop-seen-preserved
 loop-seen-preserved g c =
@@ -18,7 +23,8 @@ loop-seen-preserved g c =
       omega arith,
       λ of.
           let before = c.loop-seen.invariant.3 of in
-          let front = none_further marks c.args.from c.loop-seen.at end before.2 (c.in_default.ensures end before.1) in (
+          let here = c.in_default.ensures end before.1 in
+          let front = none_further marks c.args.from c.loop-seen.at end before.2 here in (
             c.look_on.ensures.seen,
             c.look_on.ensures.seen,
             none_further marks c.args.from end next.at front c.look_on.ensures.passed,

@@ -9,7 +9,9 @@ returns-in_err-get-clause-value c of =
     let n = c.args.needle.now in
     let bs = c.args.bytes.now in
     subst (Finds (occurrence n bs) c.args.from) (sym c.from_residual.ensures)
-    (λ b e ge m. let fit = fits n bs b e m in ⊎_elim (λ past. omega arith) (λ past. omega arith) c.in_err-get.ensures.lookup.0)
+    (λ b e ge m.
+    let fit = fits n bs b e m in
+    ⊎_elim (λ past. omega arith) (λ past. omega arith) c.in_err-get.ensures.lookup.0)
 
 pub returns-in_err-start-clause-value : goal.returns-in_err-start-clause-value
 returns-in_err-start-clause-value c of =

@@ -24,7 +24,8 @@ returns-clause-value c of =
     let least = c.min.ensures in
     let some : 0 < length n = let long = c.if-needle-le-LANES.false in omega arith in
     let whole : end ≡ end - 0 = omega arith in
-    let last = found_back n bs some end (take end bs) (ap (λ k. take k bs) whole) (Some c.in_ok-start.start) c.in_ok-start.ensures in
+    let cut = ap (λ k. take k bs) whole in
+    let last = found_back n bs some end (take end bs) cut (Some c.in_ok-start.start) c.in_ok-start.ensures in
     record {
       ahead = omega (arith, last.ahead);
       is = last.is;

@@ -5,7 +5,8 @@ pub returns-in-Some : goal.returns-in-Some
 returns-in-Some c =
     let found = c.in-Some.ensures in
     record {
-      value = λ of. word_before c.args.bytes.now c.args.start c.in-Some.space.start c.in-Some.space.end (found.value of);
+      value = λ of.
+          word_before c.args.bytes.now c.args.start c.in-Some.space.start c.in-Some.space.end (found.value of);
       seen = found.seen;
     }
 

@@ -14,7 +14,8 @@ even g c =
     let k = c.args.self.now in
     let law = g.met.F.Searcher.lawful k.searcher k.text in
     let bytes =
-    cut_bytes-even (opening k) law c.in-Some.len c.in-Some.ensures (marks_ahead k) k.progress.made k.progress.place refl in
+    cut_bytes-even (opening k) law c.in-Some.len c.in-Some.ensures (marks_ahead k) k.progress.made k.progress.place
+    refl in
     ap (λ n. n * c.in-Some.len) c.mark_count-marks.ensures ∙ sym bytes
 
 pub overflow_mul-result : goal.overflow_mul-result

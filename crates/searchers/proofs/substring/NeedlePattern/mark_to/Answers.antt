@@ -6,7 +6,10 @@ use Rattle.searchers.proofs.substring.Needles.{stood, stood_not}
 use Rattle.searchers.proofs.substring.NeedlePattern.mark_to.Goals as goal
 
 pub returns-then-stands : goal.returns-then-stands
-returns-then-stands c = stood c.args.self.now.bytes.now c.args.bytes.now c.in_ok-start.start _ (search rules) (let e = c.in_ok-start.ensures in omega arith) (c.stands.ensures.0 c.if-stands.true)
+returns-then-stands c =
+    let e = c.in_ok-start.ensures in
+    stood c.args.self.now.bytes.now c.args.bytes.now c.in_ok-start.start _ (search rules) (omega arith)
+    (c.stands.ensures.0 c.if-stands.true)
 
 pub returns-else-stands : goal.returns-else-stands
 returns-else-stands c a m =

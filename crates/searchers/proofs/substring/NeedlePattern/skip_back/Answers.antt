@@ -10,7 +10,8 @@ returns-in-Some-rfind-clause-passed c b e gt le m =
     let bs = c.args.bytes.now in
     let front = c.in-Some.front.now in
     let cut = c.in-Some.ensures.lookup.0.2 in
-    let last = found_back n bs (fits n bs b e m).0 c.args.before front cut (Some c.in-Some-rfind.start) c.in-Some-rfind.ensures in
+    let last =
+    found_back n bs (fits n bs b e m).0 c.args.before front cut (Some c.in-Some-rfind.start) c.in-Some-rfind.ensures in
     omega (arith, last.greatest b e le m)
 
 pub returns-in-None-clause-passed : goal.returns-in-None-clause-passed

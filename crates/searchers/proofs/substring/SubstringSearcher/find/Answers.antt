@@ -8,11 +8,13 @@ pub returns-clause-value : goal.returns-clause-value
 returns-clause-value g c =
     let n = c.as_bytes.result.now in
     let bs = c.as_bytes-2.result.now in
-    rw (c.as_bytes.ensures, c.as_bytes-2.ensures) at (c.next_occurrence.ensures.value (c.nothing.ensures (occurrence n bs)))
+    let of = c.nothing.ensures (occurrence n bs) in
+    rw (c.as_bytes.ensures, c.as_bytes-2.ensures) at (c.next_occurrence.ensures.value of)
 
 pub returns-clause-cut : goal.returns-clause-cut
 returns-clause-cut g c =
     let es = g.S.AnyStr.elements c.args.text.now in
     let needle = needle_of c.args.self.now in
-    found_on es (bytes_of g.S.AnyStr needle) (g.S.AnyStr.whole c.args.text.now needle) c.args.from c.next_occurrence.result
+    let whole = g.S.AnyStr.whole c.args.text.now needle in
+    found_on es (bytes_of g.S.AnyStr needle) whole c.args.from c.next_occurrence.result
     (returns-clause-value g c)

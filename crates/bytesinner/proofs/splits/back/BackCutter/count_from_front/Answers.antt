@@ -1,4 +1,5 @@
-use Rattle.std.proofs.Common.{◌≡◌, ◌-◌, ℕ, ℤ, suc, false, not, length, IsTrue, sym, subst, ap, ◌∙◌, eqb-true, w64, SFits}
+use Rattle.std.proofs.Common.{◌≡◌, ◌-◌, ℕ, ℤ, suc, false, not, length, IsTrue, sym, subst, ap, ◌∙◌, eqb-true, w64}
+use Rattle.std.proofs.Common.{SFits}
 use Rattle.std.proofs.Common.{rules, arith}
 use mathlib.Core.Bool.{false≢true}
 use Rattle.std.proofs.lemmas.Int.{to_z-of_z}

@@ -14,4 +14,5 @@ pub returns : goal.returns
 returns g c =
     let ran = c.count.ensures.ran in
     ran.2
-    ∙ counted BackStep left_pieces (λ k. next-yields k (g.met.F.Searcher.lawful k.searcher k.text)) c.args.self ran.0 ran.1
+    ∙ counted BackStep left_pieces (λ k. next-yields k (g.met.F.Searcher.lawful k.searcher k.text)) c.args.self
+    ran.0 ran.1
