@@ -28,11 +28,11 @@ module _ (n bs : List ℕ) (some : 0 < length n) where
         let there : from + (b - from) ≡ b = omega arith in
         let room : b - from + length n ≤ length rest = omega (arith, ap length is, length-drop from bs) in
         OccursAt-from_part rest n (b - from) room
-            (same (b - from) ∙ (ap (λ p. take (length n) (drop p bs)) there ∙ (occurrence-is n bs b e m).occurs))
+        (same (b - from) ∙ (ap (λ p. take (length n) (drop p bs)) there ∙ (occurrence-is n bs b e m).occurs))
 
     pub found : (r : Option ℕ) → FindsNeedle rest n 0 r
         → MatchOption r (NoneFrom (occurrence n bs) from)
-          (λ i. Least (occurrence n bs) from (from + i) (from + i + length n))
+        (λ i. Least (occurrence n bs) from (from + i) (from + i + length n))
     found None none = λ b e ge m.
         let o = in_rest b e ge m in
         none (b - from) (omega arith) (omega (arith, o.fits)) o

@@ -30,7 +30,7 @@ returns c b e gt le m =
     let begins = byte_at n bs b e 0 b fit.0 (omega arith) m in
     let ends = byte_at n bs b e (length n - 1) (e - 1) (omega arith) (omega arith) m in
     let first = c.places_among-2.ensures k (omega arith) (omega arith)
-        (among_at (x ∷ []) bs _ b x (omega arith) begins (first_among (x ∷ []) (omega arith))) in
+    (among_at (x ∷ []) bs _ b x (omega arith) begins (first_among (x ∷ []) (omega arith))) in
     let last = c.places_among-3.ensures k (omega arith) (omega arith)
-        (among_at (z ∷ []) bs _ (e - 1) z (omega arith) ends (first_among (z ∷ []) (omega arith))) in
+    (among_at (z ∷ []) bs _ (e - 1) z (omega arith) ends (first_among (z ∷ []) (omega arith))) in
     omega (arith, bit_at_and c.places_among-2.result c.places_among-3.result k)
