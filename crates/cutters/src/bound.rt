@@ -16,5 +16,5 @@ pub fn fewer(made: u64, bound: i64) -> bool
 pub fn unbounded(bound: i64) -> bool
     ensures { IsTrue result ↔ ((made : ℕ) → IsTrue (few_cuts made bound)) }
 {
-    bound < 0
+    bound.is_negative()
 }

@@ -6,8 +6,9 @@ ghost use Rattle.anystr.specs.Texts.{bytes_of};
 ghost use Rattle.searchers.specs.lineends.Lines.{line_end, line_end-lawful};
 ghost use Rattle.searchers.specs.lineends.OnText.{line-ends_on};
 
-use crate::ascii::{AsciiPattern, AsciiStr, first_ascii_mark, last_ascii_mark};
-use crate::ascii::{next_ascii_mark, previous_ascii_mark};
+use crate::ascii::{
+    AsciiPattern, AsciiStr, first_ascii_mark, last_ascii_mark, next_ascii_mark, previous_ascii_mark,
+};
 use crate::lanes::places_among;
 use crate::mark::Mark;
 use crate::scan::Pattern;

@@ -54,7 +54,7 @@ impl SeenBack {
     pub fn nothing() -> SeenBack
         ensures { (marks : Marks) → IsSeenBackOf marks result }
     {
-        // past every text, so that no search takes it up
+        // as for a search from the front
         SeenBack {
             at: usize::MAX,
             bits: u64::MAX,

@@ -8,8 +8,9 @@ ghost use Rattle.searchers.specs.bytesets.Sets.{IsSetOf, AllBelow, AllAscii, Asc
 ghost use Rattle.searchers.specs.bytesets.Sets.{single_bytes, single_bytes-lawful};
 
 use super::byteset::ByteSet;
-use crate::ascii::{AsciiPattern, AsciiStr, first_ascii_mark, last_ascii_mark};
-use crate::ascii::{next_ascii_mark, previous_ascii_mark};
+use crate::ascii::{
+    AsciiPattern, AsciiStr, first_ascii_mark, last_ascii_mark, next_ascii_mark, previous_ascii_mark,
+};
 use crate::mark::Mark;
 use crate::scan::Pattern;
 use crate::searcher::{ReverseSearcher, Searcher};

@@ -154,12 +154,7 @@ impl<'a> ReverseSearcher<Bytes<'a>> for ByteSet {
     }
 
     #[inline(always)]
-    fn resume_back(
-        &self,
-        text: &Bytes<'a>,
-        before: usize,
-        seen: &mut SeenBack,
-    ) -> Option<Mark> {
+    fn resume_back(&self, text: &Bytes<'a>, before: usize, seen: &mut SeenBack) -> Option<Mark> {
         previous_mark(self, text.as_bytes(), before, seen)
     }
 }

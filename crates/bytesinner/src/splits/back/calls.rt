@@ -47,8 +47,7 @@ impl<S: AnyStr, F: ReverseSearcher<S>> BackCutter<S, F> {
             return None;
         }
         let text = self.text;
-        self.searcher
-            .resume_back(&text, self.progress.place, seen)
+        self.searcher.resume_back(&text, self.progress.place, seen)
     }
 
     // The number of pieces that are left, where a count from the front tells it: before the first

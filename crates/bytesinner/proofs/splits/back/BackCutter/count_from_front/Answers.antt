@@ -18,7 +18,7 @@ at_end : (g : given.Over) (c : goal.After-count_cuts g)
 at_end g c =
     let k = c.args.self.now in
     elim c.if-not-self.branch [
-      then-not-self w ↦
+      | then-not-self w ↦
           let place = eqb-true k.progress.place w.bytes_len.result (sym w.is_whole-is ∙ c.if-not-is_whole.false) in
           let none : size (opening k) - k.progress.place ≡ 0 = omega (arith, place, w.bytes_len.ensures) in
           λ i. at (none i) k.progress.made (w.if-not-self.true i)
