@@ -8,6 +8,7 @@ ghost use Rattle.bytesinner.specs.Written.{OfWritten, Cuttable};
 ghost use Rattle.bytesinner.specs.words.Words.{runs, lone_count, AllRuns};
 ghost use Rattle.bytesinner.specs.words.Words.{words_of, rwords_of};
 
+use super::count::count_words;
 use super::runs::Runs;
 use anystr::anystr::AnyStr;
 use anystr::place::Place;
@@ -31,7 +32,7 @@ impl Shares {
         ensures total { result.total ≡ length (runs (bytes_of S.AnyStr text.now)) }
         ensures alone { result.alone ≡ lone_count result.total maxsplit }
     {
-        let total = Runs::new(*text).count();
+        let total = count_words(text.as_bytes());
         let alone = usize::try_from(maxsplit).map_or(total, |bound| total.min(bound));
         Shares { total, alone }
     }
