@@ -4,3 +4,4 @@ pub mod Bounded
 pub mod OnText
 pub mod Opened
 pub mod Spaces
+pub mod Starts

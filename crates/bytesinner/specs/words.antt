@@ -2,3 +2,4 @@ pub mod Words
 pub mod Few
 pub mod Runs
 pub mod Yields
+pub mod Starts

@@ -21,7 +21,7 @@ use Rattle.bytesinner.specs.declared.words.runs.Runs.{Runs}
 use Rattle.bytesinner.specs.words.Yields.{no_run, next-yields}
 
 -- a stretch with a byte is a run
-one_run : (a e : ℕ) → a < e → run a e ≡ (a, e) ∷ []
+pub one_run : (a e : ℕ) → a < e → run a e ≡ (a, e) ∷ []
 one_run a e lt = cond-true (ltb a e) _ _ (lt-ltb a e lt)
 
 -- what a comparison of two tests says

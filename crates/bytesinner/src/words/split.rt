@@ -6,6 +6,7 @@ ghost use Rattle.anystr.specs.Texts.{bytes_of};
 ghost use Rattle.bytesinner.specs.Splitting.{WordsLaw};
 ghost use Rattle.bytesinner.specs.words.Words.{runs, lone_count, words_of, rwords_of};
 
+use super::count::count_words;
 use super::runs::Runs;
 use anystr::anystr::AnyStr;
 use anystr::place::Place;
@@ -29,7 +30,7 @@ impl Shares {
         ensures total { result.total ≡ length (runs (bytes_of S.AnyStr text.now)) }
         ensures alone { result.alone ≡ lone_count result.total maxsplit }
     {
-        let total = Runs::new(*text).count();
+        let total = count_words(text.as_bytes());
         let alone = usize::try_from(maxsplit).map_or(total, |bound| total.min(bound));
         Shares { total, alone }
     }
