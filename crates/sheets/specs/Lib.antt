@@ -1,1 +1,3 @@
+pub mod Apart
+pub mod Escapes
 pub mod Shown

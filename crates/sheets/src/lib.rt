@@ -3,3 +3,4 @@
 
 pub mod counts;
 pub mod escapes;
+pub mod read;

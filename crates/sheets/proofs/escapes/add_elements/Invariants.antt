@@ -3,7 +3,7 @@ use Rattle.std.specs.List.{concat}
 use Rattle.std.specs.Vec.{vec_capacity}
 use Rattle.anystr.specs.Elements.{offset}
 use Rattle.sheets.specs.Shown.{shown}
-use Rattle.sheets.proofs.escapes.add_text.Given as goal
+use Rattle.sheets.proofs.escapes.add_elements.Given as goal
 
 -- some elements are shown, and the next begins at `start`
 abbrev pub invariant-loop-len : goal.invariant-loop-len
