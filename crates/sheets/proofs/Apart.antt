@@ -50,9 +50,11 @@ pub apart-elements : (es : List (List ℕ)) → Filled es → AsciiApart es → 
 apart-elements [] filled apart few = All-nil IsApart
 apart-elements (e ∷ es) filled apart few =
     All-cons IsApart e es
-    (record { some = filled.0;
-        bytes = All-same IsByte e _ (sym (take-append_seam e (concat es))) (All-take IsByte (length e) _ few);
-        alone = first-alone e es filled.0 apart; })
+    (record {
+      some = filled.0;
+      bytes = All-same IsByte e _ (sym (take-append_seam e (concat es))) (All-take IsByte (length e) _ few);
+      alone = first-alone e es filled.0 apart;
+    })
     (apart-elements es filled.1 (rest-apart e es filled.0 apart)
     (All-same IsByte (concat es) _ (sym (drop-append_seam e (concat es))) (All-drop IsByte (length e) _ few)))
   where

@@ -3,4 +3,5 @@ pub mod Counting
 pub mod Plain
 pub mod ReadBack
 pub mod Reading
+pub mod Surveyed
 pub mod Walks

@@ -100,8 +100,14 @@ module _ (es : List (List ℕ)) (k place : ℕ) (bytes rest : List ℕ) (begins 
       let next = take long (drop k es) in
       let both = ap concat (take-add k long es) ∙ concat-append front next in
       let size = run-here.bytes ∙ ap (take long) (sym same-rest) in
-      omega (arith, begins, ap length both, length-append (concat front) (concat next), ap length size,
-      length-prefix_len is_plain rest)
+      omega (
+        arith,
+        begins,
+        ap length both,
+        length-append (concat front) (concat next),
+        ap length size,
+        length-prefix_len is_plain rest,
+      )
 
   run-shown : shown (take (k + long) es) ≡ shown (take k es) ++ take long rest
   run-shown =
@@ -121,5 +127,10 @@ module _ (es : List (List ℕ)) (k place : ℕ) (bytes rest : List ℕ) (begins 
     pub run-fits : length old + long ≤ length before + length (shown es)
     run-fits =
         let more = ap length run-shown ∙ length-append (shown (take k es)) (take long rest) in
-        omega (arith, more, shown-front es (k + long), length-prefix_len is_plain rest,
-        ap length was ∙ length-append before (shown (take k es)))
+        omega (
+          arith,
+          more,
+          shown-front es (k + long),
+          length-prefix_len is_plain rest,
+          ap length was ∙ length-append before (shown (take k es)),
+        )

@@ -4,3 +4,4 @@
 pub mod counts;
 pub mod escapes;
 pub mod read;
+pub mod rows;

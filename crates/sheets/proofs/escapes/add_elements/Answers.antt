@@ -46,8 +46,16 @@ overflow_add-start g c =
     let bytes = c.args.bytes.now in
     let rest = take (length bytes - end) (drop end bytes) in
     let short = prefix_len-le-length is_plain rest in
-    omega (arith, here.few, short, ap length (take_rest bytes end), length-drop end bytes, c.in_ok-start.ensures.ok.0,
-    ap length c.requires.bytes, g.S.AnyStr.few text)
+    omega (
+      arith,
+      here.few,
+      short,
+      ap length (take_rest bytes end),
+      length-drop end bytes,
+      c.in_ok-start.ensures.ok.0,
+      ap length c.requires.bytes,
+      g.S.AnyStr.few text,
+    )
 
 pub loop-len-smaller : goal.loop-len-smaller
 loop-len-smaller g c =

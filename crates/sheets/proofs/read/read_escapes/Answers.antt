@@ -10,7 +10,7 @@ loop-first-preserved c =
     let e : ℕ × ℕ = (c.in_ok-byte.byte, c.in_ok-byte.taken) in
     let left = take_rest c.in-Some.after.now c.in_ok-byte.taken in
     let more = read-more c.args.word.now l.bytes.items l.rest.now l.invariant c.in-Some.first.now c.in-Some.after.now
-        c.in-Some.ensures.cases.0 e c.in_ok-byte.ensures.value in
+    c.in-Some.ensures.cases.0 e c.in_ok-byte.ensures.value in
     cc (left, more, c.in_ok-push.ensures.items)
 
 pub returns-in_err-byte-clause-wrong : goal.returns-in_err-byte-clause-wrong
@@ -18,7 +18,7 @@ returns-in_err-byte-clause-wrong c =
     let l = c.loop-first in
     let p = err_from_is_err_and c.from_residual-in_err-byte.result c.from_residual-in_err-byte.ensures.1 in
     let wrong = read-wrong c.args.word.now l.bytes.items l.rest.now l.invariant c.in-Some.first.now c.in-Some.after.now
-        c.in-Some.ensures.cases.0 c.in_err-byte.field-0.0 c.in_err-byte.ensures.value in
+    c.in-Some.ensures.cases.0 c.in_err-byte.field-0.0 c.in_err-byte.ensures.value in
     rw (p.1, p.2) (inr wrong)
 
 pub returns-clause-value : goal.returns-clause-value
