@@ -375,7 +375,7 @@ def main():
     refuse('escape-digits', ['find', '\\x4'], 'SUB: \\x wants two hexadecimal digits after it' + escapes)
     refuse('escape-cut', ['join', '\\'], 'SEP: nothing stands after the backslash at the end' + escapes)
     refuse('escape-pour', ['cut', ',', 'pour:\\y'], "TO: a backslash before 'y' is no escape" + escapes)
-    refuse('escape-sep', ['check', '--sep', '\\0'], "sep: a backslash before '0' is no escape" + escapes)
+    refuse('escape-sep', ['check', '--sep', '\\0'], "SEP: a backslash before '0' is no escape" + escapes)
 
     refuse('near-word', ['spilt', ','], "'spilt' is no word of chart; did you mean 'split'? See 'chart help'")
     refuse('near-file', ['chek'], "'chek' cannot be read: No such file or directory (os error 2); did you mean the word 'check'?")

@@ -90,14 +90,18 @@ fn bytes_of<'a>(heap: Global, id: &'static str, word: &str) -> Result<Vec<u8>, T
     }
 }
 
-// The bytes that an argument names, or those of the default.
+// The bytes that an argument names, or none where it is left out.
 fn read_text<'a>(
     heap: Global,
     matches: &ArgMatches<'a>,
     id: &'static str,
-    default: &str,
 ) -> Result<Vec<u8>, Trouble<'a>> {
-    bytes_of(heap, id, matches.get_str(id).unwrap_or(default))
+    bytes_of(heap, id, matches.get_str(id).unwrap_or(""))
+}
+
+// The separator of an option, or a comma.
+fn read_sep<'a>(heap: Global, matches: &ArgMatches<'a>) -> Result<Vec<u8>, Trouble<'a>> {
+    bytes_of(heap, SEP, matches.get_str(SEP_OPTION).unwrap_or(COMMA))
 }
 
 fn read_splitter<'a>(heap: Global, matches: &ArgMatches<'a>) -> Result<Splitter, Trouble<'a>> {
@@ -143,23 +147,23 @@ fn read_calls<'a>(heap: Global, matches: &ArgMatches<'a>) -> Result<Vec<CutterCa
 
 fn read_replace<'a>(heap: Global, matches: &ArgMatches<'a>) -> Result<Ask, Trouble<'a>> {
     Ok(Ask::Replace {
-        from: read_text(heap, matches, FROM, "")?,
-        to: read_text(heap, matches, TO, "")?,
+        from: read_text(heap, matches, FROM)?,
+        to: read_text(heap, matches, TO)?,
         maxcount: matches.get_one::<i64>(MAXCOUNT),
     })
 }
 
 fn read_translate<'a>(heap: Global, matches: &ArgMatches<'a>) -> Result<Ask, Trouble<'a>> {
     Ok(Ask::Translate {
-        from: read_text(heap, matches, FROM, "")?,
-        to: read_text(heap, matches, TO, "")?,
-        delete: read_text(heap, matches, DELETE, "")?,
+        from: read_text(heap, matches, FROM)?,
+        to: read_text(heap, matches, TO)?,
+        delete: read_text(heap, matches, DELETE)?,
     })
 }
 
 fn read_cut<'a>(heap: Global, matches: &ArgMatches<'a>) -> Result<Ask, Trouble<'a>> {
     Ok(Ask::Cut {
-        sep: read_text(heap, matches, SEP, "")?,
+        sep: read_text(heap, matches, SEP)?,
         bound: matches.get_one::<i64>(BOUND).unwrap_or(UNBOUNDED),
         calls: read_calls(heap, matches)?,
     })
@@ -169,7 +173,7 @@ fn read_cut<'a>(heap: Global, matches: &ArgMatches<'a>) -> Result<Ask, Trouble<'
 fn read_ask<'a>(heap: Global, name: &str, matches: &ArgMatches<'a>) -> Result<Ask, Trouble<'a>> {
     match name {
         "check" => Ok(Ask::Check {
-            sep: read_text(heap, matches, SEP_OPTION, COMMA)?,
+            sep: read_sep(heap, matches)?,
             fields: matches.get_one::<usize>(FIELDS),
         }),
         "split" => Ok(Ask::Split(read_splitter(heap, matches)?)),
@@ -177,15 +181,15 @@ fn read_ask<'a>(heap: Global, name: &str, matches: &ArgMatches<'a>) -> Result<As
         "lines" => Ok(Ask::Lines {
             keep: read_keep(matches)?,
         }),
-        "find" => Ok(Ask::Find(read_text(heap, matches, SUB, "")?)),
-        "rfind" => Ok(Ask::Rfind(read_text(heap, matches, SUB, "")?)),
-        "count" => Ok(Ask::Count(read_text(heap, matches, SUB, "")?)),
+        "find" => Ok(Ask::Find(read_text(heap, matches, SUB)?)),
+        "rfind" => Ok(Ask::Rfind(read_text(heap, matches, SUB)?)),
+        "count" => Ok(Ask::Count(read_text(heap, matches, SUB)?)),
         "replace" => read_replace(heap, matches),
         "translate" => read_translate(heap, matches),
         "cut" => read_cut(heap, matches),
         // the one that is left
         _ => Ok(Ask::Join {
-            sep: read_text(heap, matches, SEP, "")?,
+            sep: read_text(heap, matches, SEP)?,
         }),
     }
 }
@@ -209,7 +213,7 @@ pub fn read_asked<'a>(
     match matches.subcommand() {
         Some((name, inner)) => Ok((read_manner(inner, false), read_ask(heap, name, inner)?)),
         None => {
-            let sep = read_text(heap, matches, SEP_OPTION, COMMA)?;
+            let sep = read_sep(heap, matches)?;
             Ok((read_manner(matches, true), Ask::View { sep }))
         }
     }

@@ -16,17 +16,13 @@ mod view;
 mod words;
 
 use answer::show;
-use anystr::anystr::AnyStr;
 use anystr::bytes::Bytes;
-use anystr::refusal::Refusal;
 use asked::{Ask, Manner, read_asked};
 use clap::error::ErrorKind;
 use clap::{ArgMatches, Error};
 use input::read_sheet;
 use page::Page;
 use std::alloc::Global;
-use std::env::{Env, FillError};
-use std::io::Write;
 use std::process::ExitCode;
 use std::{env, io};
 use stop::Stop;
@@ -117,13 +113,20 @@ fn run<'a>(rt: &HostRuntime, words: &'a [String]) -> Result<bool, Trouble<'a>> {
     }
 }
 
-// As in `replay`, with this program's name: no crate lies between the two.
+// Says what kept the program from what was asked: of the words in the lines of the library that reads them.
+fn say(rt: &HostRuntime, trouble: &Trouble<'_>) {
+    let _ = match trouble {
+        Trouble::Misused(error) => rt.eprint(error),
+        trouble => eprintln!(rt; "chart: {trouble}"),
+    };
+}
+
 fn ended(rt: &HostRuntime, ran: Result<bool, Trouble<'_>>) -> ExitCode {
     match ran {
         Ok(true) => ExitCode::SUCCESS,
         Ok(false) => ExitCode::FAILURE,
         Err(trouble) => {
-            let _ = eprintln!(rt; "chart: {trouble}");
+            say(rt, &trouble);
             ExitCode::FAILURE
         }
     }

@@ -92,7 +92,7 @@ const THE_SEP_OPTION: Given = Given {
 const THE_FORMAT: Given = Given {
     id: FORMAT,
     form: Form::Format,
-    help: "For programs: number, start, end and content, a tab between",
+    help: "For programs: number, start, end, content, tabs between",
 };
 
 const THE_IN_FILE: Given = Given {
@@ -128,7 +128,7 @@ const THE_SUB: Given = Given {
 const SPLITTER: Given = Given {
     id: SEP,
     form: Form::Optional,
-    help: "The separator; without it, the parts are words between whitespace",
+    help: "The separator; without it, words between whitespace",
 };
 
 static VIEW: [Given; 3] = [THE_FILE, THE_SEP_OPTION, THE_FORMAT];
@@ -137,14 +137,14 @@ static WORDS: [Word; 11] = [
     Word {
         name: "check",
         about: "The rows that have another number of fields than the header",
-        example: "Status 1 if there is one, 0 if none. Example: chart check --sep ';' harbour.csv",
+        example: "Status 1 if there is one, 0 if none.\nExample: chart check --sep ';' harbour.csv",
         args: &[
             THE_FILE,
             THE_SEP_OPTION,
             Given {
                 id: FIELDS,
                 form: Form::Count,
-                help: "How many fields a row is to have; without it, as many as the first",
+                help: "How many fields a row is to have; else as many as the first",
             },
             THE_FORMAT,
         ],
@@ -300,9 +300,10 @@ static WORDS: [Word; 11] = [
 const ABOUT: &str = "Shows the rows and fields of a sheet, or what a method gives on it";
 
 const AFTER: &str =
-    "In SEP, SUB, FROM, TO and DELETE, \\t, \\n, \\r and \\\\ name a tab, a line feed, a carriage
-return and a backslash, and \\xHH the byte with this hexadecimal number; so they are shown, too.
-Messages go to the standard error, with status 1. Example: chart --sep ';' harbour.csv";
+    "In SEP, SUB, FROM, TO and DELETE, \\t, \\n, \\r and \\\\ name a tab, a line feed, a
+carriage return and a backslash, and \\xHH the byte of this hexadecimal number; so
+they are shown, too. Messages go to the standard error, with status 1.
+Example: chart --sep ';' harbour.csv";
 
 fn arg_of<'a>(heap: Global, given: &Given) -> Arg<'a> {
     let arg = Arg::new(heap, given.id).help(given.help);
@@ -326,7 +327,8 @@ fn arg_of<'a>(heap: Global, given: &Given) -> Arg<'a> {
         Form::Format => arg
             .long(given.id)
             .value_name("tsv")
-            .value_parser(["tsv"].as_slice()),
+            .value_parser(["tsv"].as_slice())
+            .hide_possible_values(true),
         Form::Flag => arg.long(given.id).action(ArgAction::SetTrue),
     }
 }
