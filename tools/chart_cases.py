@@ -301,7 +301,7 @@ def main():
     refuse('view-no-file', ['no/such/file'], "'no/such/file' cannot be read: No such file or directory (os error 2)")
     refuse('view-folder', ['docs'], "'docs' cannot be read: Is a directory (os error 21)")
     refuse('view-empty-sep', ['--sep', ''], 'refused (1): nothing to look for, or to separate at')
-    refuse('view-bad-sep', ['--sep', '\\xff'], 'refused (10): what is given is not well-formed text from byte 0 on')
+    refuse('view-bad-sep', ['--sep', '\\xff'], 'refused (10): what is given is not well-formed text, from byte 0')
 
     shifted = b'Chart,Name,Scale\n101,Quay,1:2500\n102,Inner, Outer Basin,1:5000\n103,1:2500\n'
     write('check', shifted, ['check'])

@@ -59,7 +59,10 @@ fn show_listing<S: AsciiStr>(
 
 // Shows what a search gave.
 fn show_found(page: &mut Page, offset: Result<Option<usize>, Refusal>) -> Result<(), Stop> {
-    page.found(offset?)
+    match offset? {
+        Some(offset) => page.line("found at ", offset, ""),
+        None => page.say("none"),
+    }
 }
 
 // Shows what a count gave.
@@ -111,7 +114,7 @@ fn show_heading<S: AsciiStr>(
     kind: &str,
 ) -> Result<(), Stop> {
     for word in words.iter().skip(1) {
-        page.word(word.as_bytes())?;
+        page.word(word.as_bytes());
     }
     page.line(" on ", sheet.bytes_len(), kind)
 }

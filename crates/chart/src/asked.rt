@@ -8,7 +8,7 @@ use super::words::{
 use clap::ArgMatches;
 use cutters::bound::UNBOUNDED;
 use sheets::read::{EscapeError, read_escapes};
-use std::alloc::{AllocError, Global};
+use std::alloc::Global;
 
 /// Where the sheet stands, and how it is to be looked at and shown.
 #[derive(Clone, Copy)]
@@ -140,7 +140,9 @@ fn read_calls<'a>(heap: Global, matches: &ArgMatches<'a>) -> Result<Vec<CutterCa
     let mut calls = Vec::new(heap);
     for word in matches.get_strs(CALL).unwrap_or(&[]) {
         let call = read_call(heap, word)?;
-        calls.push(call).map_err(AllocError::from)?;
+        let Ok(()) = calls.push(call) else {
+            return Err(Trouble::Stopped(Stop::Memory));
+        };
     }
     Ok(calls)
 }

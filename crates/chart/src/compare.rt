@@ -16,7 +16,7 @@ pub fn show_check<S: AsciiStr>(
     for deviant in survey.deviants.iter() {
         let place = deviant.place;
         let content = sheet.get_bytes(place.start..place.end);
-        page.deviant(deviant.number, place, deviant.fields, expected, &content)?;
+        page.deviant(*deviant, expected, &content)?;
     }
     let n = survey.deviants.len();
     page.line("deviating rows ", n, "")?;

@@ -9,7 +9,7 @@ use cutters::piece::Piece;
 use cutters::play::{Answer, Call, play};
 use searchers::ascii::AsciiStr;
 use searchers::substring::Substring;
-use std::alloc::{AllocError, Global};
+use std::alloc::Global;
 use trays::buffer::Buffer;
 
 /// A sheet that is to be cut, by what and how often.
@@ -36,7 +36,9 @@ fn calls_of<'a, S: AsciiStr + TryFrom<&'a [u8], Error = Refusal>>(
                 tray: 0,
             },
         };
-        calls.push(call).map_err(AllocError::from)?;
+        let Ok(()) = calls.push(call) else {
+            return Err(Stop::Memory);
+        };
     }
     Ok(calls)
 }
@@ -51,7 +53,9 @@ fn play_on<S: AsciiStr>(
     answers: &mut [Answer],
 ) -> Result<(), Stop> {
     let mut trays = Vec::new(heap);
-    trays.push(Buffer::new(tray)).map_err(AllocError::from)?;
+    let Ok(()) = trays.push(Buffer::new(tray)) else {
+        return Err(Stop::Memory);
+    };
     let sep = Substring::new(cutting.sep);
     play(
         cutting.sheet,
@@ -74,15 +78,13 @@ fn room_of(answers: &[Answer]) -> usize {
     0
 }
 
-// Shows a call, by its name.
-fn show_call(page: &mut Page, call: &CutterCall) -> Result<(), Stop> {
-    let name = match call {
+fn name_of(call: &CutterCall) -> &'static str {
+    match call {
         CutterCall::Next => "next",
         CutterCall::Skip(_) => "skip",
         CutterCall::Rest => "rest",
         CutterCall::Pour(_) => "pour",
-    };
-    Ok(page.call(name)?)
+    }
 }
 
 fn show_piece<S: AsciiStr>(page: &mut Page, sheet: &S, piece: Piece) -> Result<(), Stop> {
@@ -126,7 +128,7 @@ pub fn show_cut<'a, S: AsciiStr + TryFrom<&'a [u8], Error = Refusal>>(
         answers.as_mut_slice(),
     )?;
     for (call, answer) in asked.iter().zip(answers.as_slice()) {
-        show_call(page, call)?;
+        page.call(name_of(call));
         show_answer(page, &cutting.sheet, *answer)?;
     }
     page.tray(tray.as_slice())

@@ -101,8 +101,10 @@ fn show_asked<'a>(
 
 // Shows the help that was asked for.
 fn help<'a>(rt: &HostRuntime, text: &Error) -> Result<bool, Trouble<'a>> {
-    rt.print(text).map_err(Stop::Output)?;
-    Ok(true)
+    match rt.print(text) {
+        Ok(()) => Ok(true),
+        Err(error) => Err(Trouble::Stopped(Stop::Output(error))),
+    }
 }
 
 fn run<'a>(rt: &HostRuntime, words: &'a [String]) -> Result<bool, Trouble<'a>> {

@@ -1,14 +1,14 @@
 // What is shown, line by line.
 use super::refused::Refused;
 use super::stop::Stop;
-use anystr::anystr::AnyStr;
 use anystr::bytes::Bytes;
 use anystr::place::Place;
 use anystr::refusal::Refusal;
 use itoa::Buffer;
 use searchers::ascii::AsciiStr;
 use sheets::escapes::add_text;
-use std::alloc::{AllocError, Global};
+use sheets::rows::Deviant;
+use std::alloc::Global;
 use std::io;
 use std::io::Write;
 use std::rt::Stdout;
@@ -19,10 +19,12 @@ const FULL: usize = 65_536;
 
 const BLANKS: &[u8] = b"                ";
 
-// The widths of a number, a start and an end.
+// The widths of a number, of an offset, and of the name of a count.
 const NUMBER: usize = 4;
 
 const OFFSET: usize = 8;
+
+const NAME: usize = 14;
 
 // Whether bytes are written to a shell without quotes.
 fn is_plain(word: &[u8]) -> bool {
@@ -38,12 +40,14 @@ pub enum Number {
     In(usize, usize),
 }
 
-/// The lines that are shown.
+/// The lines that are shown. A line for which memory runs out is not ended, and nothing is written after it.
 #[derive(Drop)]
 pub struct Page {
     out: Stdout,
     // lines that are not yet written out
     lines: Vec<u8>,
+    // whether memory ran out in the line
+    failed: bool,
     pub tsv: bool,
     pub heap: Global,
 }
@@ -54,58 +58,68 @@ impl Page {
         Page {
             out,
             lines: Vec::new(heap),
+            failed: false,
             tsv,
             heap,
         }
     }
 
-    fn put(&mut self, bytes: &[u8]) -> Result<(), AllocError> {
-        self.lines.extend_from_slice(bytes)
+    fn put(&mut self, bytes: &[u8]) {
+        let put = self.lines.extend_from_slice(bytes);
+        self.failed |= put.is_err();
     }
 
-    fn blanks(&mut self, n: usize) -> Result<(), AllocError> {
-        self.put(BLANKS.get(..n).unwrap_or(BLANKS))
+    // A text as it is shown.
+    fn content<S: AsciiStr>(&mut self, text: &S) {
+        let put = add_text(&mut self.lines, text);
+        self.failed |= put.is_err();
     }
 
-    fn number(&mut self, n: usize) -> Result<(), AllocError> {
-        let mut buffer = Buffer::new();
-        self.lines.extend_from_slice(buffer.format(n).as_bytes())
+    fn blanks(&mut self, n: usize) {
+        self.put(BLANKS.get(..n).unwrap_or(BLANKS));
+    }
+
+    fn number(&mut self, n: usize) {
+        self.put(Buffer::new().format(n).as_bytes());
     }
 
     // A number that ends at this width, or goes past it.
-    fn to_right(&mut self, n: usize, width: usize) -> Result<(), AllocError> {
+    fn to_right(&mut self, n: usize, width: usize) {
         let mut buffer = Buffer::new();
         let digits = buffer.format(n).as_bytes();
-        self.blanks(width.saturating_sub(digits.len()))?;
-        self.lines.extend_from_slice(digits)
+        self.blanks(width.saturating_sub(digits.len()));
+        self.put(digits);
     }
 
     // A number, and blanks up to this width.
-    fn to_left(&mut self, n: usize, width: usize) -> Result<(), AllocError> {
+    fn to_left(&mut self, n: usize, width: usize) {
         let mut buffer = Buffer::new();
         let digits = buffer.format(n).as_bytes();
-        self.lines.extend_from_slice(digits)?;
-        self.blanks(width.saturating_sub(digits.len()))
+        self.put(digits);
+        self.blanks(width.saturating_sub(digits.len()));
+    }
+
+    // A place in bytes, in columns.
+    fn place(&mut self, place: Place) {
+        self.to_right(place.start, OFFSET);
+        self.put(b"..");
+        self.to_left(place.end, OFFSET);
+        self.blanks(2);
     }
 
     // A text in quotes.
-    fn quoted<S: AsciiStr>(&mut self, text: &S) -> Result<(), AllocError> {
-        self.put(b"\"")?;
-        add_text(&mut self.lines, text)?;
-        self.put(b"\"")
-    }
-
-    // Bytes as text where they are text, and else byte by byte.
-    fn quoted_bytes(&mut self, bytes: &[u8]) -> Result<(), AllocError> {
-        match Text::try_from(bytes) {
-            Ok(text) => self.quoted(&text),
-            Err(_) => self.quoted(&Bytes::new(bytes)),
-        }
+    fn quoted<S: AsciiStr>(&mut self, text: &S) {
+        self.put(b"\"");
+        self.content(text);
+        self.put(b"\"");
     }
 
     // Ends a line, and writes out what has gathered if that is much.
     fn end(&mut self) -> Result<(), Stop> {
-        self.put(b"\n")?;
+        self.put(b"\n");
+        if self.failed {
+            return Err(Stop::Memory);
+        }
         if self.lines.len() >= FULL {
             self.write_out()?;
         }
@@ -124,44 +138,21 @@ impl Page {
         self.out.flush()
     }
 
-    // The columns of a line for programs: number, start, end and content.
-    fn columns<S: AsciiStr>(
-        &mut self,
-        number: Number,
-        place: Place,
-        content: &S,
-    ) -> Result<(), AllocError> {
+    // The number, start and end of a line for programs.
+    fn columns(&mut self, number: Number, place: Place) {
         match number {
-            Number::One(n) => self.number(n)?,
+            Number::One(n) => self.number(n),
             Number::In(row, n) => {
-                self.number(row)?;
-                self.put(b".")?;
-                self.number(n)?;
+                self.number(row);
+                self.put(b".");
+                self.number(n);
             }
         }
-        self.put(b"\t")?;
-        self.number(place.start)?;
-        self.put(b"\t")?;
-        self.number(place.end)?;
-        self.put(b"\t")?;
-        add_text(&mut self.lines, content)
-    }
-
-    // The same for people.
-    fn field<S: AsciiStr>(
-        &mut self,
-        number: usize,
-        place: Place,
-        content: &S,
-    ) -> Result<(), AllocError> {
-        self.blanks(NUMBER)?;
-        self.to_right(number, NUMBER)?;
-        self.blanks(2)?;
-        self.to_right(place.start, OFFSET)?;
-        self.put(b"..")?;
-        self.to_left(place.end, OFFSET)?;
-        self.blanks(2)?;
-        self.quoted(content)
+        self.put(b"\t");
+        self.number(place.start);
+        self.put(b"\t");
+        self.number(place.end);
+        self.put(b"\t");
     }
 
     /// A part of the sheet, with its number, its place in bytes and its content.
@@ -172,19 +163,26 @@ impl Page {
         content: &S,
     ) -> Result<(), Stop> {
         match number {
-            _ if self.tsv => self.columns(number, place, content)?,
-            Number::One(n) | Number::In(_, n) => self.field(n, place, content)?,
+            _ if self.tsv => {
+                self.columns(number, place);
+                self.content(content);
+            }
+            Number::One(n) | Number::In(_, n) => {
+                self.blanks(NUMBER);
+                self.to_right(n, NUMBER);
+                self.blanks(2);
+                self.place(place);
+                self.quoted(content);
+            }
         }
         self.end()
     }
 
-    // A row's number and its place in bytes.
-    fn row_head(&mut self, number: usize, place: Place) -> Result<(), AllocError> {
-        self.put(b"row ")?;
-        self.to_right(number, NUMBER)?;
-        self.blanks(2)?;
-        self.to_right(place.start, OFFSET)?;
-        self.put(b"..")
+    // A row's number.
+    fn row_head(&mut self, number: usize) {
+        self.put(b"row ");
+        self.to_right(number, NUMBER);
+        self.blanks(2);
     }
 
     /// A row of the sheet, before its parts; for programs with its content.
@@ -197,50 +195,33 @@ impl Page {
         if self.tsv {
             return self.part(Number::One(number), place, content);
         }
-        self.put(b"\n")?;
-        self.row_head(number, place)?;
-        self.number(place.end)?;
+        self.put(b"\n");
+        self.row_head(number);
+        self.to_right(place.start, OFFSET);
+        self.put(b"..");
+        self.number(place.end);
         self.end()
     }
 
     /// A row that has another number of fields than is expected.
     pub fn deviant<S: AsciiStr>(
         &mut self,
-        number: usize,
-        place: Place,
-        fields: usize,
+        deviant: Deviant,
         expected: usize,
         content: &S,
     ) -> Result<(), Stop> {
         if self.tsv {
-            return self.part(Number::One(number), place, content);
+            return self.part(Number::One(deviant.number), deviant.place, content);
         }
-        self.row_head(number, place)?;
-        self.to_left(place.end, OFFSET)?;
-        self.put(b"  fields ")?;
-        self.number(fields)?;
-        self.put(b", expected ")?;
-        self.number(expected)?;
-        self.blanks(2)?;
-        self.quoted(content)?;
+        self.row_head(deviant.number);
+        self.place(deviant.place);
+        self.put(b"fields ");
+        self.number(deviant.fields);
+        self.put(b", expected ");
+        self.number(expected);
+        self.blanks(2);
+        self.quoted(content);
         self.end()
-    }
-
-    /// The sheet's size, and what the check for well-formed text said; nothing for programs.
-    pub fn head<S: AnyStr>(&mut self, sheet: &S, checked: Result<(), Refusal>) -> Result<(), Stop> {
-        if self.tsv {
-            return Ok(());
-        }
-        self.line("sheet  ", sheet.bytes_len(), " bytes")?;
-        match checked {
-            Ok(()) => self.line("text   well formed, ", sheet.element_count(), " characters"),
-            Err(refusal) => {
-                let (number, offset) = refusal.code();
-                self.put(b"text   not well formed from offset ")?;
-                self.number(offset as usize)?;
-                self.line(" on (refusal ", number as usize, ")")
-            }
-        }
     }
 
     /// A line with a number; none for programs.
@@ -248,74 +229,67 @@ impl Page {
         if self.tsv {
             return Ok(());
         }
-        self.put(before.as_bytes())?;
-        self.number(number)?;
-        self.put(after.as_bytes())?;
+        self.put(before.as_bytes());
+        self.number(number);
+        self.put(after.as_bytes());
         self.end()
     }
 
     /// A count under its name, on a line of its own.
     pub fn count(&mut self, name: &str, count: usize) -> Result<(), Stop> {
-        self.put(name.as_bytes())?;
-        self.blanks(14usize.saturating_sub(name.len()))?;
-        self.to_right(count, OFFSET)?;
+        self.put(name.as_bytes());
+        self.blanks(NAME.saturating_sub(name.len()));
+        self.to_right(count, OFFSET);
         self.end()
     }
 
     /// A line of text.
     pub fn say(&mut self, text: &str) -> Result<(), Stop> {
-        self.put(text.as_bytes())?;
+        self.put(text.as_bytes());
         self.end()
     }
 
     /// A word of a call, as one would write it to a shell; nothing for programs.
-    pub fn word(&mut self, word: &[u8]) -> Result<(), AllocError> {
+    pub fn word(&mut self, word: &[u8]) {
         if self.tsv {
-            return Ok(());
+            return;
         }
         if is_plain(word) {
-            self.put(word)?;
+            self.put(word);
         } else {
-            self.quoted(&Text::new(word))?;
+            self.quoted(&Text::new(word));
         }
-        self.put(b" ")
-    }
-
-    /// Where something was found, if anywhere.
-    pub fn found(&mut self, offset: Option<usize>) -> Result<(), Stop> {
-        match offset {
-            Some(offset) => self.line("found at ", offset, ""),
-            None => self.say("none"),
-        }
+        self.put(b" ");
     }
 
     /// A call on a cutter, before its answer.
-    pub fn call(&mut self, name: &str) -> Result<(), AllocError> {
-        self.blanks(NUMBER)?;
-        self.put(name.as_bytes())?;
-        self.blanks(OFFSET.saturating_sub(name.len()))
+    pub fn call(&mut self, name: &str) {
+        self.blanks(NUMBER);
+        self.put(name.as_bytes());
+        self.blanks(OFFSET.saturating_sub(name.len()));
     }
 
     /// A place with its content, behind a call.
     pub fn piece<S: AsciiStr>(&mut self, place: Place, content: &S) -> Result<(), Stop> {
-        self.to_right(place.start, OFFSET)?;
-        self.put(b"..")?;
-        self.to_left(place.end, OFFSET)?;
-        self.blanks(2)?;
-        self.quoted(content)?;
+        self.place(place);
+        self.quoted(content);
         self.end()
     }
 
     /// A refusal as an answer.
     pub fn refused(&mut self, refusal: Refusal) -> Result<(), Stop> {
-        write!(self.lines, "{}", Refused(refusal))?;
+        let put = write!(self.lines, "{}", Refused(refusal));
+        self.failed |= put.is_err();
         self.end()
     }
 
-    /// What a tray holds.
+    /// What a tray holds: as text where it is text, and else byte by byte.
     pub fn tray(&mut self, bytes: &[u8]) -> Result<(), Stop> {
-        self.put(b"tray    ")?;
-        self.quoted_bytes(bytes)?;
+        self.put(b"tray    ");
+        match Text::try_from(bytes) {
+            Ok(text) => self.quoted(&text),
+            Err(_) => self.quoted(&Bytes::new(bytes)),
+        }
         self.end()
     }
 }

@@ -1,7 +1,36 @@
 // Refusals in words.
-use anystr::anystr::MAX_BYTES;
 use anystr::refusal::Refusal;
 use std::fmt;
+
+// What a refusal means; the number that it carries, if it does, stands behind.
+fn meaning(refusal: Refusal) -> &'static str {
+    match refusal {
+        Refusal::EmptyNeedle => "nothing to look for, or to separate at",
+        Refusal::NotByte => "the number is no byte",
+        Refusal::UnequalLengths => "FROM and TO have unequal lengths",
+        Refusal::BadTable => "the table has not 256 bytes",
+        Refusal::ResultTooLong => "the result is too long",
+        Refusal::TooLong => "too many bytes for a text, or too many places",
+        Refusal::TooSmall { .. } => "there is no room for",
+        Refusal::Spent => "the cutter has no piece left",
+        Refusal::TooFew { .. } => "the pieces left are only",
+        Refusal::IllFormed { .. } => "what is given is not well-formed text, from byte",
+        Refusal::NotAscii { .. } => "not ASCII is the byte",
+        Refusal::BadPlace { .. } => "what cannot be cut out is place",
+    }
+}
+
+// Whether a refusal carries a number.
+fn has_value(refusal: Refusal) -> bool {
+    matches!(
+        refusal,
+        Refusal::TooSmall { .. }
+            | Refusal::TooFew { .. }
+            | Refusal::IllFormed { .. }
+            | Refusal::NotAscii { .. }
+            | Refusal::BadPlace { .. }
+    )
+}
 
 /// A refusal, with its number and what it means.
 // A type of its own, and no `Display` of the refusal's: `replay` writes numbers alone.
@@ -10,26 +39,12 @@ pub struct Refused(pub Refusal);
 
 impl fmt::Display for Refused {
     fn fmt<W: fmt::Write>(&self, f: &mut fmt::Formatter<W>) -> fmt::Result {
-        let (number, _) = self.0.code();
-        write!(f, "refused ({number}): ")?;
-        match self.0 {
-            Refusal::EmptyNeedle => f.write_str("nothing to look for, or to separate at"),
-            Refusal::NotByte => f.write_str("the number is no byte"),
-            Refusal::UnequalLengths => f.write_str("FROM and TO have unequal lengths"),
-            Refusal::BadTable => f.write_str("the table has not 256 bytes"),
-            Refusal::ResultTooLong => f.write_str("the result is too long"),
-            Refusal::TooLong => write!(f, "more than {MAX_BYTES} bytes"),
-            Refusal::TooSmall { needed } => write!(f, "there is no room for {needed}"),
-            Refusal::Spent => f.write_str("the cutter has no piece left"),
-            Refusal::TooFew { left } => write!(f, "the pieces left are only {left}"),
-            Refusal::IllFormed { formed } => {
-                write!(
-                    f,
-                    "what is given is not well-formed text from byte {formed} on"
-                )
-            }
-            Refusal::NotAscii { least } => write!(f, "the byte {least} is not ASCII"),
-            Refusal::BadPlace { index } => write!(f, "place {index} cannot be cut out"),
+        let (number, value) = self.0.code();
+        let meaning = meaning(self.0);
+        if has_value(self.0) {
+            write!(f, "refused ({number}): {meaning} {value}")
+        } else {
+            write!(f, "refused ({number}): {meaning}")
         }
     }
 }

@@ -82,6 +82,26 @@ fn show_counts<S: AsciiStr>(page: &mut Page, sheet: &S, tally: &Tally) -> Result
     page.count("blanks", count_in(sheet, &AsciiSet::new(b" ")))
 }
 
+// Shows the sheet's size, and what the check for well-formed text said.
+fn show_head<S: AsciiStr>(
+    page: &mut Page,
+    sheet: &S,
+    checked: Result<(), Refusal>,
+) -> Result<(), Stop> {
+    page.line("sheet  ", sheet.bytes_len(), " bytes")?;
+    match checked {
+        Ok(()) => page.line("text   well formed, ", sheet.element_count(), " characters"),
+        Err(refusal) => {
+            let offset = refusal.code().1 as usize;
+            page.line(
+                "text   not well formed from offset ",
+                offset,
+                " on (refusal 10)",
+            )
+        }
+    }
+}
+
 /// Shows a sheet, with what its check for well-formed text said.
 pub fn show_view<S: AsciiStr>(
     page: &mut Page,
@@ -90,7 +110,7 @@ pub fn show_view<S: AsciiStr>(
     sep: S,
 ) -> Result<(), Stop> {
     Substring::check(&sep)?;
-    page.head(sheet, checked)?;
+    show_head(page, sheet, checked)?;
     let tally = show_rows(page, *sheet, Substring::new(sep))?;
     show_counts(page, sheet, &tally)
 }
