@@ -4,7 +4,8 @@ use super::stop::Stop;
 use searchers::ascii::AsciiStr;
 use sheets::rows::survey_rows;
 
-/// Shows the rows that have another number of fields than is expected, and tells whether there is none.
+/// Shows the rows that have another number of fields than is expected, and tells whether there is
+/// none.
 pub fn show_check<S: AsciiStr>(
     page: &mut Page,
     sheet: &S,

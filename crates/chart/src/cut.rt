@@ -43,8 +43,8 @@ fn calls_of<'a, S: AsciiStr + TryFrom<&'a [u8], Error = Refusal>>(
     Ok(calls)
 }
 
-// Plays the calls, with this memory for the tray. A list of one tray on the heap: lending an array of what holds a loan
-// gets no generated proof.
+// Plays the calls, with this memory for the tray. A list of one tray on the heap: lending an array
+// of what holds a loan gets no generated proof.
 fn play_on<S: AsciiStr>(
     heap: Global,
     cutting: &Cutting<S>,
@@ -68,7 +68,8 @@ fn play_on<S: AsciiStr>(
     Ok(())
 }
 
-// How much room the first pour takes, by its answer where it had none. No later one is accepted: it finds the cutter spent.
+// How much room the first pour takes, by its answer where it had none. No later one is accepted: it
+// finds the cutter spent.
 fn room_of(answers: &[Answer]) -> usize {
     for answer in answers {
         if let Answer::Pour(answer) = answer {

@@ -24,7 +24,8 @@ fn read_file(rt: &HostRuntime, file: &str) -> io::Result<Vec<u8>> {
     Ok(bytes)
 }
 
-// A file that cannot be read, where its name stands in the place of a word: it may have been meant as one.
+// A file that cannot be read, where its name stands in the place of a word: it may have been meant
+// as one.
 fn no_file<'a>(rt: &HostRuntime, file: &'a str, error: io::Error) -> Trouble<'a> {
     match nearest(rt.alloc(), file) {
         Ok(Some(near)) => Trouble::NoFile { file, error, near },

@@ -18,7 +18,8 @@ pub enum Listing<S: AsciiStr> {
     Lines(SplitLinesArgs),
 }
 
-/// How much room a method takes, by its answer where it had none: the refusal says how much the whole takes.
+/// How much room a method takes, by its answer where it had none: the refusal says how much the
+/// whole takes.
 pub fn room<R: Drop>(answer: Result<R, Refusal>) -> Result<usize, Refusal> {
     match answer {
         Ok(_) => Ok(0),
@@ -40,8 +41,8 @@ fn list<S: AsciiStr>(
     }
 }
 
-// A text is first taken to have at most one place in so many bytes: most sheets have no more, and are then gone through
-// once less.
+// A text is first taken to have at most one place in so many bytes: most sheets have no more, and
+// are then gone through once less.
 const SPARSE: usize = 8;
 
 /// The places that the method lists.
@@ -70,7 +71,8 @@ pub fn show_places<S: AsciiStr>(page: &mut Page, text: &S, places: &[Place]) -> 
     Ok(())
 }
 
-// Shows the places that the method lists in a row, each where it stands in the sheet, and gives their number.
+// Shows the places that the method lists in a row, each where it stands in the sheet, and gives
+// their number.
 fn show_row<S: AsciiStr>(
     page: &mut Page,
     sheet: &S,
@@ -96,7 +98,8 @@ fn show_row<S: AsciiStr>(
 
 const BARE: SplitLinesArgs = SplitLinesArgs { keepends: false };
 
-/// Shows the places that the method lists on each row by itself, and below them their number, after `name`.
+/// Shows the places that the method lists on each row by itself, and below them their number, after
+/// `name`.
 pub fn show_by_rows<S: AsciiStr>(
     page: &mut Page,
     sheet: &S,

@@ -1,4 +1,5 @@
-// Reads a harbour's sheet, and shows its rows and fields, the rows that deviate, or what a method gives on it.
+// Reads a harbour's sheet, and shows its rows and fields, the rows that deviate, or what a method
+// gives on it.
 #![tactic(auto)]
 
 mod answer;
@@ -35,7 +36,8 @@ fn read_words(rt: &HostRuntime) -> io::Result<Vec<String>> {
     Ok(env::args(rt)?.collect(rt.alloc())?)
 }
 
-// What is wrong with the words: where the first is none of the program's, but near to one, this is what it says.
+// What is wrong with the words: where the first is none of the program's, but near to one, this is
+// what it says.
 fn misused<'a>(heap: Global, words: &'a [String], error: Error) -> Trouble<'a> {
     if error.kind() == ErrorKind::UnknownArgument {
         if let [_, word, ..] = words {
@@ -52,8 +54,8 @@ fn misused<'a>(heap: Global, words: &'a [String], error: Error) -> Trouble<'a> {
     Trouble::Misused(error)
 }
 
-// The sheet is shown by its characters where it is well-formed text, and else, or where that is asked, by its bytes. A
-// match, here and where else bytes may be text: no closure takes both kinds.
+// The sheet is shown by its characters where it is well-formed text, and else, or where that is
+// asked, by its bytes. A match, here and where else bytes may be text: no closure takes both kinds.
 fn show_sheet<'a>(
     page: &mut Page,
     sheet: &'a [u8],
@@ -115,7 +117,8 @@ fn run<'a>(rt: &HostRuntime, words: &'a [String]) -> Result<bool, Trouble<'a>> {
     }
 }
 
-// Says what kept the program from what was asked: of the words in the lines of the library that reads them.
+// Says what kept the program from what was asked: of the words in the lines of the library that
+// reads them.
 fn say(rt: &HostRuntime, trouble: &Trouble<'_>) {
     let _ = match trouble {
         Trouble::Misused(error) => rt.eprint(error),

@@ -40,7 +40,8 @@ pub enum Number {
     In(usize, usize),
 }
 
-/// The lines that are shown. A line for which memory runs out is not ended, and nothing is written after it.
+/// The lines that are shown. A line for which memory runs out is not ended, and nothing is written
+/// after it.
 #[derive(Drop)]
 pub struct Page {
     out: Stdout,

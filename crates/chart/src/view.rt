@@ -13,7 +13,8 @@ use searchers::substring::Substring;
 use sheets::counts::count_in;
 use std::num::Saturating;
 
-// The counts below a sheet. A text has far fewer rows and fields than a number holds, so no count saturates.
+// The counts below a sheet. A text has far fewer rows and fields than a number holds, so no count
+// saturates.
 #[derive(Clone, Copy, Default)]
 struct Tally {
     rows: Saturating<usize>,
@@ -21,7 +22,8 @@ struct Tally {
     empty: Saturating<usize>,
 }
 
-/// Where a piece of a row stands in the sheet. No sum saturates: a sheet has far fewer bytes than a number holds.
+/// Where a piece of a row stands in the sheet. No sum saturates: a sheet has far fewer bytes than a
+/// number holds.
 pub fn place_in(row: Place, start: usize, end: usize) -> Place {
     Place {
         start: row.start.saturating_add(start),

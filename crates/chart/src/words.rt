@@ -144,7 +144,7 @@ static WORDS: [Word; 11] = [
             Given {
                 id: FIELDS,
                 form: Form::Count,
-                help: "How many fields a row is to have; else as many as the first",
+                help: "How many fields a row is to have; else as the first",
             },
             THE_FORMAT,
         ],
@@ -300,8 +300,8 @@ static WORDS: [Word; 11] = [
 const ABOUT: &str = "Shows the rows and fields of a sheet, or what a method gives on it";
 
 const AFTER: &str =
-    "In SEP, SUB, FROM, TO and DELETE, \\t, \\n, \\r and \\\\ name a tab, a line feed, a
-carriage return and a backslash, and \\xHH the byte of this hexadecimal number; so
+    "In SEP, SUB, FROM, TO and DELETE, \\t, \\n, \\r, \\\\ and \\xHH name a tab, a line
+feed, a carriage return, a backslash and the byte of this hexadecimal number; so
 they are shown, too. Messages go to the standard error, with status 1.
 Example: chart --sep ';' harbour.csv";
 

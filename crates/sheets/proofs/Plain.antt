@@ -1,5 +1,5 @@
 -- Bytes that are shown as themselves, one after another.
-use Rattle.std.proofs.Common.{◌≡◌, ◌≢◌, ℕ, zero, suc, ◌+◌, ◌<◌, ◌≤◌, true, List, [], ◌∷◌, ◌++◌, length, get_or, take, drop}
+use Rattle.std.proofs.Common.{◌≡◌, ◌≢◌, ℕ, zero, suc, ◌<◌, ◌≤◌, true, List, [], ◌∷◌, ◌++◌, length, get_or, take}
 use Rattle.std.proofs.Common.{All, refl, ap, ◌∙◌, arith}
 use Rattle.std.specs.List.{concat}
 use Rattle.std.proofs.lemmas.Bool.{cond-true}
@@ -26,7 +26,8 @@ run zero es apart few plain = record { bytes = refl; same = refl }
 run (suc n) [] apart few plain = absurd (omega arith)
 run (suc n) ([] ∷ es) apart few plain = absurd (omega (arith, (All-head IsApart [] es apart).some))
 run (suc n) ((b ∷ []) ∷ es) apart few plain =
-    let after : Run n es = run n es (All-tail IsApart (b ∷ []) es apart) (omega arith) (λ k lt. plain (suc k) (omega arith)) in
+    let others = All-tail IsApart (b ∷ []) es apart in
+    let after : Run n es = run n es others (omega arith) (λ k lt. plain (suc k) (omega arith)) in
     let itself : shown_byte b ≡ b ∷ [] = cond-true _ _ _ (plain 0 (omega arith)) in
     record {
       bytes = ap (λ r. b ∷ r) after.bytes;

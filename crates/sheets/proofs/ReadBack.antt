@@ -1,17 +1,18 @@
 -- What is shown of a text is read back.
-use Rattle.std.proofs.Common.{◌≡◌, ◌≢◌, ℕ, zero, suc, ◌+◌, ◌-◌, ◌*◌, ◌/◌, ◌%◌, ◌<◌, ◌≤◌, ◌&&◌, Bool, true, false, cond, List, [], ◌∷◌}
-use Rattle.std.proofs.Common.{◌++◌, length, get_or, All, Some, None, Ok, Err, Option, Result, sym, refl, ap, ◌∙◌, subst, ⊎_elim}
-use Rattle.std.proofs.Common.{append_assoc, arith, ltb, leb, eqb, inl, inr}
+use Rattle.std.proofs.Common.{◌≡◌, ◌≢◌, ℕ, ◌+◌, ◌*◌, ◌/◌, ◌%◌, ◌<◌, true}
+use Rattle.std.proofs.Common.{List, [], ◌∷◌}
+use Rattle.std.proofs.Common.{◌++◌, length, get_or, All, Some, Ok, Err, Result, sym, refl, ap, ◌∙◌}
+use Rattle.std.proofs.Common.{arith, eqb}
 use Rattle.std.specs.List.{concat}
-use Rattle.std.proofs.lemmas.Bool.{cond_both, cond-true, cond-false, cases_Bool, ltb-true, ltb-false, leb-true, leb-false, eqb-true, eqb-false}
-use Rattle.std.proofs.lemmas.Bool.{lt-ltb, le-ltb, le-leb, lt-leb, eq-eqb, ne_eqb, cases_lt}
+use Rattle.std.proofs.lemmas.Bool.{cond_both, cond-false}
+use Rattle.std.proofs.lemmas.Bool.{eqb-true}
+use Rattle.std.proofs.lemmas.Bool.{ne_eqb}
 use Rattle.std.proofs.lemmas.Bool.Decides.{nat_tests}
 use Rattle.std.proofs.lemmas.List.Elements.{All-head, All-tail, All-from_get_or}
 use Rattle.std.proofs.Math.Nat.{div-add-mod}
-use Rattle.anystr.specs.Elements.{offset, Boundary, Filled}
-use Rattle.searchers.specs.Ascii.{AsciiApart}
 use Rattle.sheets.specs.Apart.{IsApart}
-use Rattle.sheets.specs.Escapes.{before, digit, escape, hex_escape, of_digits, named, named_at, read_past, taken, unescaped}
+use Rattle.sheets.specs.Escapes.{before, digit, of_digits, named, read_past, taken}
+use Rattle.sheets.specs.Escapes.{unescaped}
 use Rattle.sheets.specs.Shown.{hex, is_plain, spelled, shown_byte, shown_element, shown}
 use Rattle.sheets.specs.declared.read.EscapeError.{EscapeError}
 use Rattle.sheets.proofs.Plain.{plain-other}
@@ -34,7 +35,8 @@ read-plains : (bs rest : List ℕ) → All (λ b. b ≢ 92) bs → unescaped (bs
 read-plains [] rest none = sym (before-nil (unescaped rest))
 read-plains (b ∷ bs) rest none =
     read-plain b (bs ++ rest) (All-head (λ n. n ≢ 92) b bs none)
-    ∙ (ap (before (b ∷ [])) (read-plains bs rest (All-tail (λ n. n ≢ 92) b bs none)) ∙ before-append (b ∷ []) bs (unescaped rest))
+    ∙ (ap (before (b ∷ [])) (read-plains bs rest (All-tail (λ n. n ≢ 92) b bs none))
+    ∙ before-append (b ∷ []) bs (unescaped rest))
 
 -- `\x` with two digits names the byte that they spell
 read-hex : (b : ℕ) (rest : List ℕ) → b < 256
@@ -49,7 +51,8 @@ read-hex b rest lt =
     ap (λ r. named r (read_past (taken r) (120 ∷ hex (b / 16) ∷ hex (b % 16) ∷ rest))) spelled
 
 -- a byte as it is shown names itself
-read-shown_byte : (b : ℕ) (rest : List ℕ) → b < 256 → unescaped (shown_byte b ++ rest) ≡ before (b ∷ []) (unescaped rest)
+read-shown_byte : (b : ℕ) (rest : List ℕ) → b < 256
+    → unescaped (shown_byte b ++ rest) ≡ before (b ∷ []) (unescaped rest)
 read-shown_byte b rest lt =
     cond_both (is_plain b) (b ∷ []) (spelled b) Back (λ plain. read-plain b rest (plain-other b plain))
     (λ _. cond_both (eqb b 9) _ _ Back (λ is. at 9 is)

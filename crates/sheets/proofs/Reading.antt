@@ -1,6 +1,6 @@
 -- Reading a word escape by escape.
 use Rattle.std.proofs.Common.{◌≡◌, ℕ, zero, suc, List, [], ◌∷◌, ◌++◌, length, drop, Ok, Err, Result, sym, refl, ap, ◌∙◌}
-use Rattle.std.proofs.Common.{append_assoc, arith}
+use Rattle.std.proofs.Common.{append_assoc}
 use Rattle.std.proofs.lemmas.List.{append-nil, nil_from_length}
 use Rattle.sheets.specs.Escapes.{before, named, named_at, read_past, taken, unescaped}
 use Rattle.sheets.specs.declared.read.EscapeError.{EscapeError}

@@ -1,5 +1,6 @@
 -- Rows whose number of fields is not the expected one.
-use Rattle.std.proofs.Common.{◌≡◌, ℕ, zero, suc, ◌+◌, ◌<◌, ◌≤◌, false, List, [], ◌∷◌, ◌++◌, map, length, get_or, take, inl, inr, Ok, Err, Result, sym, refl, ap, ◌∙◌}
+use Rattle.std.proofs.Common.{◌≡◌, ℕ, zero, suc, ◌+◌, ◌<◌, false, List, [], ◌∷◌, ◌++◌, map, length, get_or, take}
+use Rattle.std.proofs.Common.{inl, inr, Ok, Err, Result, sym, refl, ap, ◌∙◌}
 use Rattle.std.proofs.Common.{append_assoc, arith, subst, eqb}
 use Rattle.std.proofs.lemmas.Bool.{cond-true, cond-false, eq-eqb}
 use Rattle.std.proofs.lemmas.List.{append-nil, take_all, take_more, length-map, length-take-le, get_or-map, map-append}
@@ -83,21 +84,29 @@ module _ (sep bytes : List ℕ) (expected : ℕ) where
     abbrev row : Span
     row = stretch (get_or rows k d)
 
+    -- the rows before it, compared
+    abbrev past : List Seen
+    past = deviating sep bytes expected 1 (take k (stretches rows))
+
+    -- a row of this number, if it deviates
+    abbrev one : ℕ → Span → List Seen
+    one n r = unless_expected expected n r (field_count sep (part bytes r))
+
     step : deviating sep bytes expected 1 (take (k + 1) (stretches rows))
-        ≡ deviating sep bytes expected 1 (take k (stretches rows)) ++ unless_expected expected (k + 1) row fields
+        ≡ past ++ unless_expected expected (k + 1) row fields
     step =
+        let last = get_or (stretches rows) k (stretch d) in
         let within : k < length (stretches rows) = omega (arith, length-map rows stretch) in
         let short = length-take-le k (stretches rows) (omega (arith, length-map rows stretch)) in
         let number : 1 + length (take k (stretches rows)) ≡ k + 1 = omega (arith, short) in
-        let there : get_or (stretches rows) k (stretch d) ≡ row = get_or-map stretch rows k d (stretch d) lt in
+        let there : last ≡ row = get_or-map stretch rows k d (stretch d) lt in
         ap (deviating sep bytes expected 1) (take_more (stretches rows) k (stretch d) within)
-        ∙ (deviating-more (take k (stretches rows)) (get_or (stretches rows) k (stretch d)) 1
-        ∙ ap (λ ds. deviating sep bytes expected 1 (take k (stretches rows)) ++ ds)
-        (ap (λ n. unless_expected expected n (get_or (stretches rows) k (stretch d)) (field_count sep (part bytes (get_or (stretches rows) k (stretch d))))) number
-        ∙ (ap (λ r. unless_expected expected (k + 1) r (field_count sep (part bytes r))) there
-        ∙ ap (unless_expected expected (k + 1) row) (sym is))))
+        ∙ (deviating-more (take k (stretches rows)) last 1
+        ∙ ap (λ ds. past ++ ds)
+        (ap (λ n. one n last) number
+        ∙ (ap (one (k + 1)) there ∙ ap (unless_expected expected (k + 1) row) (sym is))))
 
-    module _ (old : List Deviant) (was : map seen old ≡ deviating sep bytes expected 1 (take k (stretches rows))) where
+    module _ (old : List Deviant) (was : map seen old ≡ past) where
       -- it is put down where they are not those that are expected
       pub put-down : (new : List Deviant) (at : Deviant) → new ≡ old ++ at ∷ [] → seen at ≡ (k + 1, row, fields)
           → eqb fields expected ≡ false → map seen new ≡ deviating sep bytes expected 1 (take (k + 1) (stretches rows))
@@ -105,13 +114,13 @@ module _ (sep bytes : List ℕ) (expected : ℕ) where
           ap (map seen) added
           ∙ (map-append seen old (at ∷ [])
           ∙ (ap (λ ds. ds ++ (seen at ∷ [])) was
-          ∙ (ap (λ x. deviating sep bytes expected 1 (take k (stretches rows)) ++ (x ∷ [])) same
-          ∙ (ap (λ ds. deviating sep bytes expected 1 (take k (stretches rows)) ++ ds) (sym (cond-false _ _ _ other)) ∙ sym step))))
+          ∙ (ap (λ x. past ++ (x ∷ [])) same
+          ∙ (ap (λ ds. past ++ ds) (sym (cond-false _ _ _ other)) ∙ sym step))))
 
       -- and else passed over
-      pub passed-over : fields ≡ expected → map seen old ≡ deviating sep bytes expected 1 (take (k + 1) (stretches rows))
+      pub passed-over : fields ≡ expected
+          → map seen old ≡ deviating sep bytes expected 1 (take (k + 1) (stretches rows))
       passed-over same =
           was
-          ∙ (sym (append-nil (deviating sep bytes expected 1 (take k (stretches rows))))
-          ∙ (ap (λ ds. deviating sep bytes expected 1 (take k (stretches rows)) ++ ds)
-          (sym (cond-true _ _ _ (eq-eqb fields expected same))) ∙ sym step))
+          ∙ (sym (append-nil past)
+          ∙ (ap (λ ds. past ++ ds) (sym (cond-true _ _ _ (eq-eqb fields expected same))) ∙ sym step))

@@ -1,5 +1,6 @@
 -- Words in which bytes are spelled out, as they are read. Assumes nothing.
-use Rattle.std.specs.Prelude.{ℕ, zero, suc, ◌+◌, ◌-◌, ◌*◌, if◌then◌else◌, ◌&&◌, ◌==◌, nat_le, List, [], ◌∷◌, ◌++◌, Some, None, Ok, Err}
+use Rattle.std.specs.Prelude.{ℕ, zero, suc, ◌+◌, ◌-◌, ◌*◌, if◌then◌else◌, ◌&&◌, ◌==◌, nat_le, List, [], ◌∷◌, ◌++◌, Some}
+use Rattle.std.specs.Prelude.{None, Ok, Err}
 use Rattle.std.specs.Prelude.{Option, Result}
 use Rattle.sheets.specs.declared.read.EscapeError.{EscapeError}
 use Rattle.sheets.specs.declared.read.EscapeError.TheVariants.{Unknown, Digits, Cut}

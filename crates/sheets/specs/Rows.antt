@@ -1,5 +1,6 @@
 -- Rows of a sheet whose number of fields is not the expected one. Assumes nothing.
-use Rattle.std.specs.Prelude.{ℕ, suc, ◌+◌, if◌then◌else◌, ◌==◌, false, List, [], ◌∷◌, ◌++◌, length, Some, None, Ok, Err, Option, Result}
+use Rattle.std.specs.Prelude.{ℕ, ◌+◌, if◌then◌else◌, ◌==◌, false, List, [], ◌∷◌, ◌++◌, length, Some, None, Ok, Err}
+use Rattle.std.specs.Prelude.{Option, Result}
 use Rattle.anystr.specs.Places.{part, stretch}
 use Rattle.anystr.specs.Refusals.{code}
 use Rattle.anystr.specs.declared.refusal.Refusal.{Refusal}

@@ -1,5 +1,6 @@
 -- A text as it is shown: what could disturb the layout is spelled out. Assumes nothing.
-use Rattle.std.specs.Prelude.{ℕ, ◌+◌, ◌/◌, ◌%◌, Bool, if◌then◌else◌, ◌&&◌, not, List, [], ◌∷◌, ◌++◌, ◌==◌, nat_le, nat_lt}
+use Rattle.std.specs.Prelude.{ℕ, ◌+◌, ◌/◌, ◌%◌, Bool, if◌then◌else◌, ◌&&◌, not, List, [], ◌∷◌, ◌++◌, ◌==◌, nat_le}
+use Rattle.std.specs.Prelude.{nat_lt}
 
 -- a hexadecimal digit, in lower case
 abbrev pub hex : ℕ → ℕ
@@ -9,8 +10,8 @@ hex n = if nat_lt n 10 then 48 + n else 87 + n
 abbrev pub is_plain : ℕ → Bool
 is_plain b = nat_le 32 b && (nat_lt b 127 && not (b == 92))
 
--- a byte spelled out: a tab is `\t`, a line feed `\n`, a carriage return `\r`, a backslash `\\`, any other `\x` with two
--- digits
+-- a byte spelled out: a tab is `\t`, a line feed `\n`, a carriage return `\r`, a backslash `\\`, any other `\x` with
+-- two digits
 abbrev pub spelled : ℕ → List ℕ
 spelled b =
     if b == 9 then 92 ∷ 116 ∷ []

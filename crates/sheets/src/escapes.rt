@@ -1,5 +1,6 @@
 //! Texts as they are shown, so that no byte of theirs disturbs the layout.
-ghost use Rattle.std.specs.Prelude.{◌≡◌, ◌<◌, ◌≤◌, ◌+◌, ◌++◌, length, take, vec_len, All, Ok, OnOk, OnErr, IfOk, IsOk};
+ghost use Rattle.std.specs.Prelude.{◌≡◌, ◌<◌, ◌≤◌, ◌+◌, ◌++◌, length, take, vec_len, All, Ok, OnOk};
+ghost use Rattle.std.specs.Prelude.{OnErr, IfOk, IsOk};
 ghost use Rattle.std.specs.List.{prefix_len};
 ghost use Rattle.std.specs.Vec.{vec_capacity, VecUnchanged};
 ghost use Rattle.anystr.specs.Texts.{bytes_of};
@@ -118,8 +119,8 @@ fn add_elements<S: AsciiStr>(out: &mut Vec<u8>, text: &S, bytes: &[u8]) -> Resul
     ensures capacity { vec_capacity out.old ≤ vec_capacity out.new }
     ensures law { unescaped (shown (S.elements text.now)) ≡ Ok (bytes_of S.AnyStr text.now) }
 {
-    // The interface of texts has no iterator over elements, only the element at an offset. What is shown as it is goes
-    // behind an element at once.
+    // The interface of texts has no iterator over elements, only the element at an offset. What is
+    // shown as it is goes behind an element at once.
     let mut start = 0;
     while let Some((_, len)) = text.element_at(start) {
         let end = start + len;

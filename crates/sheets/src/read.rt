@@ -49,7 +49,8 @@ fn digit_of(c: u8) -> Option<u8>
     }
 }
 
-// The byte that `\x` names, by the bytes after it, and how many bytes the escape takes after its backslash.
+// The byte that `\x` names, by the bytes after it, and how many bytes the escape takes after its
+// backslash.
 fn read_hex(digits: &[u8]) -> Result<(u8, usize), EscapeError>
     ensures value { result ≡ hex_escape digits.now }
     ensures within { IfOk result (λ e. e.1 ≤ 1 + length digits.now) }

@@ -5,7 +5,8 @@ ghost use Rattle.anystr.specs.Places.{part, stretch, stretches};
 ghost use Rattle.anystr.specs.Texts.{bytes_of};
 ghost use Rattle.bytesinner.specs.Written.{Cuttable};
 ghost use Rattle.bytesinner.specs.lines.Lines.{lines_of};
-ghost use Rattle.sheets.specs.Rows.{field_count, header_count, expected_of, deviating as deviating_of, deviants_of, seen, needed_of};
+ghost use Rattle.sheets.specs.Rows.{field_count, header_count, expected_of};
+ghost use Rattle.sheets.specs.Rows.{deviating as deviating_of, deviants_of, seen, needed_of};
 ghost use Rattle.sheets.specs.declared.rows.RowsError.TheVariants.{Refused, Memory};
 
 use anystr::anystr::AnyStr;

@@ -1,4 +1,4 @@
-use Rattle.std.proofs.Common.{◌≡◌, ◌+◌, ◌-◌, ◌++◌, List, ℕ, length, ap, arith, rules, take, drop, ◌∙◌, length-drop}
+use Rattle.std.proofs.Common.{◌+◌, ◌-◌, ◌++◌, length, ap, arith, rules, take, drop, ◌∙◌, length-drop}
 use Rattle.std.proofs.lemmas.Bool.{false≢true}
 use Rattle.std.specs.List.{prefix_len}
 use Rattle.std.proofs.lemmas.List.{take_rest}
@@ -13,7 +13,8 @@ pub overflow_add-end : goal.overflow_add-end
 overflow_add-end g c =
     let text = c.args.text.now in
     let at = c.in-Some.ensures in
-    let here = element_here _ _ _ c.in-Some.len _ (g.S.AnyStr.filled text) c.loop-len.invariant.begins at.element at.len in
+    let begins = c.loop-len.invariant.begins in
+    let here = element_here _ _ _ c.in-Some.len _ (g.S.AnyStr.filled text) begins at.element at.len in
     omega (arith, here.few, g.S.AnyStr.few text)
 
 pub slice_bounds-after-count : goal.slice_bounds-after-count
@@ -41,7 +42,8 @@ pub overflow_add-start : goal.overflow_add-start
 overflow_add-start g c =
     let at = c.in-Some.ensures in
     let text = c.args.text.now in
-    let here = element_here _ _ _ c.in-Some.len _ (g.S.AnyStr.filled text) c.loop-len.invariant.begins at.element at.len in
+    let begins = c.loop-len.invariant.begins in
+    let here = element_here _ _ _ c.in-Some.len _ (g.S.AnyStr.filled text) begins at.element at.len in
     let end = c.loop-len.start + c.in-Some.len in
     let bytes = c.args.bytes.now in
     let rest = take (length bytes - end) (drop end bytes) in
@@ -82,7 +84,9 @@ loop-len-preserved g c =
     let added = run.ok.1 ∙ ap (λ n. c.add_element.new.out.items ++ take n rest) run.ok.0 in
     record {
       count = k + prefix_len is_plain rest;
-      begins = ap (λ n. end + n) run.ok.0 ∙ run-next es k end bytes rest here.next c.requires.bytes cut c.requires.apart;
+      begins =
+          ap (λ n. end + n) run.ok.0
+          ∙ run-next es k end bytes rest here.next c.requires.bytes cut c.requires.apart;
       added = run-more es k end bytes rest here.next c.requires.bytes cut c.requires.apart _ _ shown _ added;
       grown = omega (arith, inv.grown, one.capacity, run.capacity);
     }

@@ -24,6 +24,6 @@ loop-index-preserved g c =
           c.loop-index.invariant now _ added refl (ne_eqb _ _ w.if-fields-expected.true)
       | else-fields-expected w ↦
           ap (λ v. map seen v.items) w.deviants-is
-          ∙ passed-over sep bytes c.args.expected c.args.rows.now k _ lt c.fields-fields.result c.fields-fields.ensures old
-          c.loop-index.invariant w.if-fields-expected.false
+          ∙ passed-over sep bytes c.args.expected c.args.rows.now k _ lt c.fields-fields.result
+          c.fields-fields.ensures old c.loop-index.invariant w.if-fields-expected.false
     ]

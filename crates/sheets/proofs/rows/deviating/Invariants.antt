@@ -7,5 +7,6 @@ use Rattle.sheets.proofs.rows.deviating.Given as goal
 -- the rows gone through are compared
 abbrev pub invariant-loop-index : goal.invariant-loop-index
 invariant-loop-index g l =
-    map seen (vec_items l.deviants) ≡ deviating (bytes_of g.S.AnyStr l.fn.sep) (bytes_of g.S.AnyStr l.fn.sheet) l.expected 1
+    map seen (vec_items l.deviants)
+    ≡ deviating (bytes_of g.S.AnyStr l.fn.sep) (bytes_of g.S.AnyStr l.fn.sheet) l.expected 1
     (take l.index (stretches l.rows))
