@@ -11,7 +11,7 @@ ghost use Rattle.sheets.specs.Shown.{hex, is_plain, shown_byte, shown_element, s
 use searchers::ascii::AsciiStr;
 use std::alloc::AllocError;
 
-const DIGIT: u8 = 16;
+pub(crate) const DIGIT: u8 = 16;
 
 // A hexadecimal digit, as a byte: what the library has gives an optional `char`.
 fn hex_digit(n: u8) -> u8

@@ -3,6 +3,7 @@ ghost use Rattle.std.specs.Prelude.{◌≡◌, ◌≤◌, ◌+◌, ◌⊎◌, le
 ghost use Rattle.sheets.specs.Escapes.{digit, hex_escape, escape, named_at, unescaped};
 ghost use Rattle.sheets.specs.declared.read.EscapeError.TheVariants.{Memory};
 
+use crate::escapes::DIGIT;
 use std::alloc::{AllocError, AllocFailed, Global};
 use thiserror::Error;
 
@@ -34,8 +35,6 @@ impl From<AllocFailed<u8>> for EscapeError {
         EscapeError::Memory
     }
 }
-
-const DIGIT: u8 = 16;
 
 // The value of a hexadecimal digit: what the library has takes a `char`.
 fn digit_of(c: u8) -> Option<u8>
