@@ -1,7 +1,6 @@
 // The bytes that a method makes of a sheet: those of replace, translate and join.
-use super::fill::room;
+use super::listing::{Listing, listed, room, show_places};
 use super::page::Page;
-use super::split::{Listing, listed};
 use super::stop::Stop;
 use anystr::anystr::{AnyStr, MAX_BYTES};
 use anystr::bytes::Bytes;
@@ -54,7 +53,7 @@ fn made<S: AnyStr>(heap: Global, sheet: &S, edit: &Edit<'_, S>) -> Result<Vec<u8
 fn show_with_ends<S: AsciiStr>(page: &mut Page, text: S) -> Result<(), Stop> {
     let lines = Listing::Lines(SplitLinesArgs { keepends: true });
     let places = listed(page.heap, &text, &lines)?;
-    Ok(page.places(&text, places.as_slice())?)
+    show_places(page, &text, places.as_slice())
 }
 
 // Shows bytes by their characters where they are well-formed text.
@@ -71,7 +70,7 @@ fn show_made(page: &mut Page, bytes: &[u8]) -> Result<(), Stop> {
         Ok(made) => show_bytes(page, made)?,
         Err(_) => page.line("not shown: more than ", MAX_BYTES, " bytes")?,
     }
-    Ok(page.line("bytes ", bytes.len(), "")?)
+    page.line("bytes ", bytes.len(), "")
 }
 
 fn show_edit<S: AnyStr>(page: &mut Page, sheet: &S, edit: &Edit<'_, S>) -> Result<(), Stop> {

@@ -1,126 +1,145 @@
-// Reads a harbour's chart index from the standard input, and shows its rows and fields, or what a method gives on it.
+// Reads a harbour's sheet, and shows its rows and fields, the rows that deviate, or what a method
+// gives on it.
 #![tactic(auto)]
 
 mod answer;
-mod calls;
+mod asked;
+mod compare;
+mod cut;
 mod edit;
-mod fill;
-mod help;
+mod input;
+mod listing;
 mod page;
-mod row;
-mod sheet;
-mod split;
+mod refused;
 mod stop;
-mod task;
 mod trouble;
+mod view;
+mod words;
 
-use answer::show_answer;
-use anystr::anystr::{AnyStr, MAX_BYTES};
+use answer::show;
 use anystr::bytes::Bytes;
-use anystr::refusal::Refusal;
-use help::HELP;
+use asked::{Ask, Manner, read_asked};
+use clap::error::ErrorKind;
+use clap::{ArgMatches, Error};
+use input::read_sheet;
 use page::Page;
-use searchers::ascii::AsciiStr;
-use sheet::show_sheet;
-use std::env::{Env, FillError};
-use std::io::{BufWriter, Read, Write};
+use std::alloc::Global;
 use std::process::ExitCode;
 use std::{env, io};
 use stop::Stop;
-use task::{Method, Task, read_task};
 use text::Text;
 use trouble::Trouble;
+use words::{nearest, program};
 
-// One byte more than a sheet may have tells that there are too many.
-const READ_AT_MOST: u64 = MAX_BYTES as u64 + 1;
-
-// The words, the program's name first; none at all where only the name was given, which need not be text.
+// The words, the program's name first.
 fn read_words(rt: &HostRuntime) -> io::Result<Vec<String>> {
-    if let Err(FillError::NotPresent) = rt.arg(1, &mut []) {
-        return Ok(Vec::new(rt.alloc()));
-    }
     Ok(env::args(rt)?.collect(rt.alloc())?)
 }
 
-fn read_sheet(rt: &HostRuntime) -> io::Result<Vec<u8>> {
-    let mut bytes = Vec::new(rt.alloc());
-    rt.stdin().take(READ_AT_MOST).read_to_end(&mut bytes)?;
-    Ok(bytes)
+// What is wrong with the words: where the first is none of the program's, but near to one, this is
+// what it says.
+fn misused<'a>(heap: Global, words: &'a [String], error: Error) -> Trouble<'a> {
+    if error.kind() == ErrorKind::UnknownArgument {
+        if let [_, word, ..] = words {
+            if let Ok(Some(near)) = nearest(heap, word.as_str()) {
+                if near != word.as_str() {
+                    return Trouble::NoWord {
+                        word: word.as_str(),
+                        near,
+                    };
+                }
+            }
+        }
+    }
+    Trouble::Misused(error)
 }
 
-// Shows the sheet, or a method's words and what it gives on the sheet.
-fn show<'a, S: AsciiStr + TryFrom<&'a [u8], Error = Refusal>>(
+// The sheet is shown by its characters where it is well-formed text, and else, or where that is
+// asked, by its bytes. A match, here and where else bytes may be text: no closure takes both kinds.
+fn show_sheet<'a>(
     page: &mut Page,
+    sheet: &'a [u8],
     words: &[String],
-    sheet: S,
-    checked: Result<(), Refusal>,
-    method: Option<Method<'a>>,
-) -> Result<(), Stop> {
-    let Some(method) = method else {
-        return show_sheet(page, sheet, checked);
-    };
-    for word in words.iter().skip(1) {
-        page.word(word.as_bytes())?;
+    manner: &Manner<'_>,
+    ask: &'a Ask,
+) -> Result<bool, Stop> {
+    let bytes = Bytes::new(sheet);
+    match Text::try_from(sheet) {
+        Ok(text) if !manner.bytes => show(page, &text, Ok(()), words, manner, ask),
+        Ok(_) => show(page, &bytes, Ok(()), words, manner, ask),
+        Err(refusal) => show(page, &bytes, Err(refusal), words, manner, ask),
     }
-    let kind = match checked {
-        Ok(()) => " bytes of text",
-        Err(_) => " bytes",
-    };
-    show_answer(page, &sheet, kind, method)
 }
 
-// Writes a page, at whose end stands what was refused. The sheet is shown by its characters where it is well-formed
-// text, and else by its bytes. A match, here and where else bytes may be text: no closure takes both kinds.
-fn write_page(
+// Writes a page: all of it, or up to what stops it.
+fn write_page<'a>(
     rt: &HostRuntime,
+    sheet: &'a [u8],
     words: &[String],
-    sheet: Bytes<'_>,
-    method: Option<Method<'_>>,
-) -> io::Result<()> {
-    let mut page = Page::new(BufWriter::new(rt.alloc(), rt.stdout())?, rt.alloc());
-    let shown = match Text::try_from(sheet.as_bytes()) {
-        Ok(text) => show(&mut page, words, text, Ok(()), method),
-        Err(refusal) => show(&mut page, words, sheet, Err(refusal), method),
-    };
-    match shown {
-        Ok(()) => {}
-        Err(Stop::Refused(refusal)) => page.refused(refusal)?,
-        Err(Stop::Failed(e)) => return Err(e),
-    }
-    page.finish()
+    manner: &Manner<'_>,
+    ask: &'a Ask,
+) -> Result<bool, Stop> {
+    let mut page = Page::new(rt.stdout(), rt.alloc(), manner.tsv);
+    let shown = show_sheet(&mut page, sheet, words, manner, ask)?;
+    page.finish()?;
+    Ok(shown)
 }
 
-// Reads the sheet, and writes what is to be shown of it.
-fn show_input(
+// Does what the words ask for, and tells whether nothing was found amiss.
+fn show_asked<'a>(
     rt: &HostRuntime,
-    words: &[String],
-    method: Option<Method<'_>>,
-) -> Result<(), Trouble> {
-    let bytes = read_sheet(rt).map_err(Trouble::Input)?;
-    let sheet = Bytes::try_from(bytes.as_slice()).map_err(Trouble::TooLong)?;
-    write_page(rt, words, sheet, method).map_err(Trouble::Output)
+    words: &'a [String],
+    matches: &ArgMatches<'a>,
+) -> Result<bool, Trouble<'a>> {
+    let (manner, ask) = read_asked(rt.alloc(), matches)?;
+    let bytes = read_sheet(rt, &manner)?;
+    let sheet = bytes.as_slice();
+    let Ok(()) = Bytes::check(sheet) else {
+        return Err(Trouble::TooLong);
+    };
+    let shown = write_page(rt, sheet, words, &manner, &ask)?;
+    Ok(shown)
 }
 
-fn run(rt: &HostRuntime) -> Result<(), Trouble> {
-    let words = read_words(rt).map_err(Trouble::Words)?;
-    let words = words.as_slice();
-    match read_task(words)? {
-        Task::Help => rt
-            .stdout()
-            .write_all(HELP.as_bytes())
-            .map_err(Trouble::Output),
-        Task::Sheet => show_input(rt, words, None),
-        Task::Method(method) => show_input(rt, words, Some(method)),
+// Shows the help that was asked for.
+fn help<'a>(rt: &HostRuntime, text: &Error) -> Result<bool, Trouble<'a>> {
+    match rt.print(text) {
+        Ok(()) => Ok(true),
+        Err(error) => Err(Trouble::Stopped(Stop::Output(error))),
     }
 }
 
-// As in `replay`, with this program's name: no crate lies between the two.
-fn main(rt: HostRuntime) -> ExitCode {
-    match run(&rt) {
-        Ok(()) => ExitCode::SUCCESS,
+fn run<'a>(rt: &HostRuntime, words: &'a [String]) -> Result<bool, Trouble<'a>> {
+    match program(rt.alloc())?.try_get_matches_from(words) {
+        Ok(matches) => show_asked(rt, words, &matches),
+        Err(error) if !error.use_stderr() => help(rt, &error),
+        Err(error) => Err(misused(rt.alloc(), words, error)),
+    }
+}
+
+// Says what kept the program from what was asked: of the words in the lines of the library that
+// reads them.
+fn say(rt: &HostRuntime, trouble: &Trouble<'_>) {
+    let _ = match trouble {
+        Trouble::Misused(error) => rt.eprint(error),
+        trouble => eprintln!(rt; "chart: {trouble}"),
+    };
+}
+
+fn ended(rt: &HostRuntime, ran: Result<bool, Trouble<'_>>) -> ExitCode {
+    match ran {
+        Ok(true) => ExitCode::SUCCESS,
+        Ok(false) => ExitCode::FAILURE,
         Err(trouble) => {
-            let _ = eprintln!(rt; "chart: {trouble}");
+            say(rt, &trouble);
             ExitCode::FAILURE
         }
+    }
+}
+
+fn main(rt: HostRuntime) -> ExitCode {
+    match read_words(&rt) {
+        Ok(words) => ended(&rt, run(&rt, words.as_slice())),
+        Err(error) => ended(&rt, Err(Trouble::Words(error))),
     }
 }

@@ -1,181 +1,296 @@
-// The layout of a sheet that is shown, line by line.
-use super::row::Row;
-use anystr::anystr::AnyStr;
+// What is shown, line by line.
+use super::refused::Refused;
+use super::stop::Stop;
 use anystr::bytes::Bytes;
 use anystr::place::Place;
 use anystr::refusal::Refusal;
-use cutters::piece::Piece;
-use cutters::play::Answer;
+use itoa::Buffer;
+use searchers::ascii::AsciiStr;
 use sheets::escapes::add_text;
+use sheets::rows::Deviant;
 use std::alloc::Global;
 use std::io;
-use std::io::{BufWriter, Write};
-use std::num::Saturating;
+use std::io::Write;
 use std::rt::Stdout;
 use text::Text;
-use trays::label::Label;
+
+// So many bytes of lines are written out at once.
+const FULL: usize = 65_536;
+
+const BLANKS: &[u8] = b"                ";
+
+// The widths of a number, of an offset, and of the name of a count.
+const NUMBER: usize = 4;
+
+const OFFSET: usize = 8;
+
+const NAME: usize = 14;
 
 // Whether bytes are written to a shell without quotes.
 fn is_plain(word: &[u8]) -> bool {
     !word.is_empty() && word.iter().all(|b| b.is_ascii_alphanumeric() || *b == b'-')
 }
 
-/// The counts below a sheet. A text has far fewer rows and fields than a number holds, so no count saturates.
-#[derive(Clone, Copy, Default)]
-pub struct Tally {
-    pub rows: Saturating<usize>,
-    pub fields: Saturating<usize>,
-    pub empty: Saturating<usize>,
+/// The number of a row, and of what stands in it.
+#[derive(Clone, Copy)]
+pub enum Number {
+    /// by itself
+    One(usize),
+    /// in the row of the first number
+    In(usize, usize),
 }
 
-/// Where a sheet is shown.
+/// The lines that are shown. A line for which memory runs out is not ended, and nothing is written
+/// after it.
 #[derive(Drop)]
 pub struct Page {
-    out: BufWriter<Stdout>,
-    // the content of the field that is shown
-    content: Vec<u8>,
+    out: Stdout,
+    // lines that are not yet written out
+    lines: Vec<u8>,
+    // whether memory ran out in the line
+    failed: bool,
+    pub tsv: bool,
     pub heap: Global,
 }
 
 impl Page {
-    /// A page that is written to `out`.
-    pub fn new(out: BufWriter<Stdout>, heap: Global) -> Page {
+    /// A page that is written to `out`, for programs or for people.
+    pub fn new(out: Stdout, heap: Global, tsv: bool) -> Page {
         Page {
             out,
-            content: Vec::new(heap),
+            lines: Vec::new(heap),
+            failed: false,
+            tsv,
             heap,
         }
     }
 
-    /// The sheet's size, and what the check for well-formed text said.
-    pub fn head<S: AnyStr>(&mut self, sheet: &S, checked: Result<(), Refusal>) -> io::Result<()> {
-        self.line("sheet  ", sheet.bytes_len(), " bytes")?;
-        match checked {
-            Ok(()) => self.line("text   well formed, ", sheet.element_count(), " characters"),
-            Err(refusal) => {
-                let (number, offset) = refusal.code();
-                writeln!(
-                    self.out,
-                    "text   not well formed from offset {offset} on (refusal {number})"
-                )
-            }
-        }
+    fn put(&mut self, bytes: &[u8]) {
+        let put = self.lines.extend_from_slice(bytes);
+        self.failed |= put.is_err();
     }
 
-    /// A row of the sheet, with its offsets in bytes.
-    pub fn row(&mut self, number: usize, row: Piece) -> io::Result<()> {
-        let Piece { start, end } = row;
-        writeln!(self.out, "\nrow {number:>4}  {start:>8}..{end}")
+    // A text as it is shown.
+    fn content<S: AsciiStr>(&mut self, text: &S) {
+        let put = add_text(&mut self.lines, text);
+        self.failed |= put.is_err();
     }
 
-    /// A field, with its number, its place in bytes and its content.
-    pub fn field<S: AnyStr>(&mut self, number: usize, place: Place, content: &S) -> io::Result<()> {
-        let Place { start, end } = place;
-        write!(self.out, "    {number:>4}  {start:>8}..{end:<8}  ")?;
-        self.quoted(content)?;
-        self.out.write_all(b"\n")
+    fn blanks(&mut self, n: usize) {
+        self.put(BLANKS.get(..n).unwrap_or(BLANKS));
+    }
+
+    fn number(&mut self, n: usize) {
+        self.put(Buffer::new().format(n).as_bytes());
+    }
+
+    // A number that ends at this width, or goes past it.
+    fn to_right(&mut self, n: usize, width: usize) {
+        let mut buffer = Buffer::new();
+        let digits = buffer.format(n).as_bytes();
+        self.blanks(width.saturating_sub(digits.len()));
+        self.put(digits);
+    }
+
+    // A number, and blanks up to this width.
+    fn to_left(&mut self, n: usize, width: usize) {
+        let mut buffer = Buffer::new();
+        let digits = buffer.format(n).as_bytes();
+        self.put(digits);
+        self.blanks(width.saturating_sub(digits.len()));
+    }
+
+    // A place in bytes, in columns.
+    fn place(&mut self, place: Place) {
+        self.to_right(place.start, OFFSET);
+        self.put(b"..");
+        self.to_left(place.end, OFFSET);
+        self.blanks(2);
     }
 
     // A text in quotes.
-    fn quoted<S: AnyStr>(&mut self, text: &S) -> io::Result<()> {
-        self.content.clear();
-        add_text(&mut self.content, text)?;
-        self.out.write_all(b"\"")?;
-        self.out.write_all(self.content.as_slice())?;
-        self.out.write_all(b"\"")
+    fn quoted<S: AsciiStr>(&mut self, text: &S) {
+        self.put(b"\"");
+        self.content(text);
+        self.put(b"\"");
     }
 
-    // Bytes as text where they are text, and else byte by byte.
-    fn poured(&mut self, bytes: &[u8]) -> io::Result<()> {
-        match Text::try_from(bytes) {
-            Ok(text) => self.quoted(&text)?,
-            Err(_) => self.quoted(&Bytes::new(bytes))?,
+    // Ends a line, and writes out what has gathered if that is much.
+    fn end(&mut self) -> Result<(), Stop> {
+        self.put(b"\n");
+        if self.failed {
+            return Err(Stop::Memory);
         }
-        self.out.write_all(b"\n")
-    }
-
-    // In the form of this page, and by no `Display`: `replay` has another.
-    fn place(&mut self, place: Place) -> io::Result<()> {
-        let Place { start, end } = place;
-        writeln!(self.out, "{start}..{end}")
-    }
-
-    /// In words of its own, and by no `Display`: `replay` writes numbers alone.
-    pub fn refused(&mut self, refusal: Refusal) -> io::Result<()> {
-        let (number, value) = refusal.code();
-        writeln!(self.out, "refused ({number}) with {value}")
-    }
-
-    /// What a call on a cutter of the row's fields answered, by places in the sheet; a pour went into the label.
-    pub fn answer<S: AnyStr>(
-        &mut self,
-        call: &str,
-        answer: Answer,
-        row: &Row<S>,
-        label: &Label,
-    ) -> io::Result<()> {
-        write!(self.out, "    {call:<8}")?;
-        match answer {
-            Answer::Next(Some(piece)) | Answer::Rest(piece) => self.place(row.place(piece)),
-            Answer::Next(None) => self.none(),
-            Answer::Skip(Ok(())) => self.out.write_all(b"ok\n"),
-            Answer::Pour(Ok(())) => self.poured(label.as_bytes()),
-            Answer::Skip(Err(refusal)) | Answer::Pour(Err(refusal)) => self.refused(refusal),
-        }
-    }
-
-    fn count(&mut self, name: &str, count: usize) -> io::Result<()> {
-        writeln!(self.out, "{name:<12}  {count:>8}")
-    }
-
-    /// The counts below a sheet.
-    pub fn counts(&mut self, tally: &Tally, tabs: usize, blanks: usize) -> io::Result<()> {
-        self.out.write_all(b"\n")?;
-        self.count("rows", tally.rows.0)?;
-        self.count("fields", tally.fields.0)?;
-        self.count("empty fields", tally.empty.0)?;
-        self.count("tabs", tabs)?;
-        self.count("blanks", blanks)
-    }
-
-    /// A word of a call, as one would write it to a shell.
-    pub fn word(&mut self, word: &[u8]) -> io::Result<()> {
-        if is_plain(word) {
-            self.out.write_all(word)?;
-        } else {
-            self.quoted(&Text::new(word))?;
-        }
-        self.out.write_all(b" ")
-    }
-
-    /// The places that a method listed, each with its content.
-    pub fn places<S: AnyStr>(&mut self, sheet: &S, places: &[Place]) -> io::Result<()> {
-        for (number, place) in (1..).zip(places) {
-            let content = sheet.get_bytes(place.start..place.end);
-            self.field(number, *place, &content)?;
+        if self.lines.len() >= FULL {
+            self.write_out()?;
         }
         Ok(())
     }
 
-    /// A line with a number.
-    pub fn line(&mut self, before: &str, number: usize, after: &str) -> io::Result<()> {
-        writeln!(self.out, "{before}{number}{after}")
-    }
-
-    fn none(&mut self) -> io::Result<()> {
-        self.out.write_all(b"none\n")
-    }
-
-    /// Where something was found, if anywhere.
-    pub fn found(&mut self, offset: Option<usize>) -> io::Result<()> {
-        match offset {
-            Some(offset) => self.line("found at ", offset, ""),
-            None => self.none(),
-        }
+    fn write_out(&mut self) -> io::Result<()> {
+        self.out.write_all(self.lines.as_slice())?;
+        self.lines.clear();
+        Ok(())
     }
 
     /// Everything is written out.
     pub fn finish(&mut self) -> io::Result<()> {
+        self.write_out()?;
         self.out.flush()
+    }
+
+    // The number, start and end of a line for programs.
+    fn columns(&mut self, number: Number, place: Place) {
+        match number {
+            Number::One(n) => self.number(n),
+            Number::In(row, n) => {
+                self.number(row);
+                self.put(b".");
+                self.number(n);
+            }
+        }
+        self.put(b"\t");
+        self.number(place.start);
+        self.put(b"\t");
+        self.number(place.end);
+        self.put(b"\t");
+    }
+
+    /// A part of the sheet, with its number, its place in bytes and its content.
+    pub fn part<S: AsciiStr>(
+        &mut self,
+        number: Number,
+        place: Place,
+        content: &S,
+    ) -> Result<(), Stop> {
+        match number {
+            _ if self.tsv => {
+                self.columns(number, place);
+                self.content(content);
+            }
+            Number::One(n) | Number::In(_, n) => {
+                self.blanks(NUMBER);
+                self.to_right(n, NUMBER);
+                self.blanks(2);
+                self.place(place);
+                self.quoted(content);
+            }
+        }
+        self.end()
+    }
+
+    // A row's number.
+    fn row_head(&mut self, number: usize) {
+        self.put(b"row ");
+        self.to_right(number, NUMBER);
+        self.blanks(2);
+    }
+
+    /// A row of the sheet, before its parts; for programs with its content.
+    pub fn row<S: AsciiStr>(
+        &mut self,
+        number: usize,
+        place: Place,
+        content: &S,
+    ) -> Result<(), Stop> {
+        if self.tsv {
+            return self.part(Number::One(number), place, content);
+        }
+        self.put(b"\n");
+        self.row_head(number);
+        self.to_right(place.start, OFFSET);
+        self.put(b"..");
+        self.number(place.end);
+        self.end()
+    }
+
+    /// A row that has another number of fields than is expected.
+    pub fn deviant<S: AsciiStr>(
+        &mut self,
+        deviant: Deviant,
+        expected: usize,
+        content: &S,
+    ) -> Result<(), Stop> {
+        if self.tsv {
+            return self.part(Number::One(deviant.number), deviant.place, content);
+        }
+        self.row_head(deviant.number);
+        self.place(deviant.place);
+        self.put(b"fields ");
+        self.number(deviant.fields);
+        self.put(b", expected ");
+        self.number(expected);
+        self.blanks(2);
+        self.quoted(content);
+        self.end()
+    }
+
+    /// A line with a number; none for programs.
+    pub fn line(&mut self, before: &str, number: usize, after: &str) -> Result<(), Stop> {
+        if self.tsv {
+            return Ok(());
+        }
+        self.put(before.as_bytes());
+        self.number(number);
+        self.put(after.as_bytes());
+        self.end()
+    }
+
+    /// A count under its name, on a line of its own.
+    pub fn count(&mut self, name: &str, count: usize) -> Result<(), Stop> {
+        self.put(name.as_bytes());
+        self.blanks(NAME.saturating_sub(name.len()));
+        self.to_right(count, OFFSET);
+        self.end()
+    }
+
+    /// A line of text.
+    pub fn say(&mut self, text: &str) -> Result<(), Stop> {
+        self.put(text.as_bytes());
+        self.end()
+    }
+
+    /// A word of a call, as one would write it to a shell; nothing for programs.
+    pub fn word(&mut self, word: &[u8]) {
+        if self.tsv {
+            return;
+        }
+        if is_plain(word) {
+            self.put(word);
+        } else {
+            self.quoted(&Text::new(word));
+        }
+        self.put(b" ");
+    }
+
+    /// A call on a cutter, before its answer.
+    pub fn call(&mut self, name: &str) {
+        self.blanks(NUMBER);
+        self.put(name.as_bytes());
+        self.blanks(OFFSET.saturating_sub(name.len()));
+    }
+
+    /// A place with its content, behind a call.
+    pub fn piece<S: AsciiStr>(&mut self, place: Place, content: &S) -> Result<(), Stop> {
+        self.place(place);
+        self.quoted(content);
+        self.end()
+    }
+
+    /// A refusal as an answer.
+    pub fn refused(&mut self, refusal: Refusal) -> Result<(), Stop> {
+        let put = write!(self.lines, "{}", Refused(refusal));
+        self.failed |= put.is_err();
+        self.end()
+    }
+
+    /// What a tray holds: as text where it is text, and else byte by byte.
+    pub fn tray(&mut self, bytes: &[u8]) -> Result<(), Stop> {
+        self.put(b"tray    ");
+        match Text::try_from(bytes) {
+            Ok(text) => self.quoted(&text),
+            Err(_) => self.quoted(&Bytes::new(bytes)),
+        }
+        self.end()
     }
 }

@@ -1,13 +1,20 @@
-// What ends the showing of a sheet early.
+// What ends a page early.
+use super::refused::Refused;
 use anystr::refusal::Refusal;
+use sheets::rows::RowsError;
 use std::alloc::AllocError;
 use std::io;
+use thiserror::Error;
 
-/// Why a page ends early.
-#[derive(Drop)]
+/// What ends a page early.
+#[derive(Debug, Drop, Error)]
 pub enum Stop {
+    #[error("{}", Refused(*.0))]
     Refused(Refusal),
-    Failed(io::Error),
+    #[error("out of memory")]
+    Memory,
+    #[error("the standard output cannot be written: {0}")]
+    Output(io::Error),
 }
 
 impl From<Refusal> for Stop {
@@ -17,13 +24,23 @@ impl From<Refusal> for Stop {
 }
 
 impl From<AllocError> for Stop {
-    fn from(error: AllocError) -> Stop {
-        Stop::Failed(io::Error::from(error))
+    fn from(_: AllocError) -> Stop {
+        Stop::Memory
     }
 }
 
+impl From<RowsError> for Stop {
+    fn from(error: RowsError) -> Stop {
+        match error {
+            RowsError::Refused(refusal) => Stop::Refused(refusal),
+            RowsError::Memory => Stop::Memory,
+        }
+    }
+}
+
+// While a page is written, only the output fails with such an error.
 impl From<io::Error> for Stop {
     fn from(error: io::Error) -> Stop {
-        Stop::Failed(error)
+        Stop::Output(error)
     }
 }

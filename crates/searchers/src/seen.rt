@@ -57,7 +57,7 @@ impl SeenBack {
         // as for a search from the front
         SeenBack {
             at: usize::MAX,
-            bits: u64::MAX,
+            bits: !0,
         }
     }
 

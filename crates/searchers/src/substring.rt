@@ -213,12 +213,8 @@ impl<S: AnyStr> Searcher<S> for Substring<S> {
 
     #[tactic(auto, using(crate::proofs::substring::OnText::found_on))]
     fn find(&self, text: &S, from: usize) -> Option<Mark> {
-        next_occurrence(
-            self.needle.as_bytes(),
-            text.as_bytes(),
-            from,
-            &mut Seen::nothing(),
-        )
+        let needle = self.needle.as_bytes();
+        next_occurrence(needle, text.as_bytes(), from, &mut Seen::nothing())
     }
 
     #[inline(always)]

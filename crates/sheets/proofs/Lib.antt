@@ -1,2 +1,7 @@
+pub mod Apart
 pub mod Counting
+pub mod Plain
+pub mod ReadBack
+pub mod Reading
+pub mod Surveyed
 pub mod Walks

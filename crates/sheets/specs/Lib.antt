@@ -1,1 +1,4 @@
+pub mod Apart
+pub mod Escapes
+pub mod Rows
 pub mod Shown

@@ -3,3 +3,5 @@
 
 pub mod counts;
 pub mod escapes;
+pub mod read;
+pub mod rows;

@@ -6,10 +6,10 @@ use Rattle.searchers.proofs.substring.SubstringSearcher.find.Goals as goal
 
 pub returns-clause-value : goal.returns-clause-value
 returns-clause-value g c =
-    let n = c.as_bytes.result.now in
-    let bs = c.as_bytes-2.result.now in
+    let n = c.as_bytes-needle.result.now in
+    let bs = c.as_bytes.result.now in
     let of = c.nothing.ensures (occurrence n bs) in
-    rw (c.as_bytes.ensures, c.as_bytes-2.ensures) at (c.next_occurrence.ensures.value of)
+    rw (c.as_bytes-needle.ensures, c.as_bytes.ensures) at (c.next_occurrence.ensures.value of)
 
 pub returns-clause-cut : goal.returns-clause-cut
 returns-clause-cut g c =
