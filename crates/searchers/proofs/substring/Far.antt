@@ -83,5 +83,5 @@ module _ (n bs : List ℕ) (some : 0 < length n) where
           let fit = fits n bs b e m in
           let o = in_front b e le m in
           ⊎_elim (λ lt. absurd (h.0.after b (omega arith) (omega (arith, o.fits)) o)) (λ ge. ge)
-              (cases_lt (i + length n) e);
+          (cases_lt (i + length n) e);
     }

@@ -4,8 +4,7 @@ use Rattle.searchers.proofs.scan.next_mark.Goals as goal
 
 pub loop-seen-init : goal.loop-seen-init
 loop-seen-init g c =
-    let begun = c.bits_from-left.ensures in
-    (
+    let begun = c.bits_from-left.ensures in (
       omega arith,
       begun.low,
       omega (arith, begun.near),
