@@ -22,8 +22,8 @@ pub struct Runs<S: AnyStr> {
     ghost looked: { IsSeenOf (single_bytes is_space (concat (S.elements text))) seen },
 }
 
-// Whether a byte is whitespace. By `|` and `&`, without a branch: so many bytes can be looked at side
-// by side.
+// Whether a byte is whitespace. By `|` and `&`, without a branch: so many bytes can be tested
+// side by side.
 #[inline(always)]
 pub(super) fn is_space(byte: u8) -> bool
     ensures { result ≡ is_space byte }
