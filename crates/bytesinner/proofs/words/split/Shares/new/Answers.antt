@@ -6,9 +6,9 @@ use Rattle.bytesinner.proofs.words.split.Shares.new.Goals as goal
 
 pub invariant_of-result-clause-few : goal.invariant_of-result-clause-few
 invariant_of-result-clause-few g c =
-    let few = g.S.AnyStr.few c.args.text.now in
     let bytes = ap (λ bs. length (runs bs)) c.as_bytes.ensures in
-    omega (arith, runs_left-few 0 (concat (g.S.AnyStr.elements c.args.text.now)) few, c.count_words-total.ensures, bytes)
+    let few = runs_left-few 0 (concat (g.S.AnyStr.elements c.args.text.now)) (g.S.AnyStr.few c.args.text.now) in
+    omega (arith, few, c.count_words-total.ensures, bytes)
 
 pub returns-clause-total : goal.returns-clause-total
 returns-clause-total g c = c.count_words-total.ensures ∙ ap (λ bs. length (runs bs)) c.as_bytes.ensures
