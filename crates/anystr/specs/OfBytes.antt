@@ -25,7 +25,7 @@ pub filled : (bs : List ℕ) → Filled (singles bs)
 filled [] = tt
 filled (b ∷ bs) = (omega arith, filled bs)
 
-take-singles : (k : ℕ) (bs : List ℕ) → take k (singles bs) ≡ singles (take k bs)
+pub take-singles : (k : ℕ) (bs : List ℕ) → take k (singles bs) ≡ singles (take k bs)
 take-singles zero bs = refl
 take-singles (suc k) [] = refl
 take-singles (suc k) (b ∷ bs) = ap (λ r. (b ∷ []) ∷ r) (take-singles k bs)

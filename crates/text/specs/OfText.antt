@@ -18,7 +18,7 @@ use Rattle.anystr.specs.OfBytes.{occurs-within}
 abbrev pub letters : List ℕ → List (List ℕ)
 letters bs = map encode (chars bs)
 
-filled-encodes : (cs : List ℕ) → Filled (map encode cs)
+pub filled-encodes : (cs : List ℕ) → Filled (map encode cs)
 filled-encodes [] = tt
 filled-encodes (c ∷ cs) = (omega (arith, length-encode c, (len_utf8_bounds c).0), filled-encodes cs)
 
