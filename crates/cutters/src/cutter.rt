@@ -1,6 +1,7 @@
 // The cutter: a text with its place, and a searcher.
 ghost use Rattle.std.specs.Prelude.{◌≡◌, ◌≤◌, false, IsTrue, ⊤};
 ghost use Rattle.anystr.specs.Elements.{on_boundary};
+ghost use Rattle.anystr.specs.Limits.{most_bytes};
 ghost use Rattle.searchers.specs.Seen.{IsSeenOf};
 
 use crate::progress::Progress;
@@ -25,6 +26,7 @@ pub struct Cutter<S: AnyStr, F: Searcher<S>> {
     // what the searcher has seen of the text: true wherever the place is, also where it is put back
     seen: Seen,
     ghost placed: { IsTrue (on_boundary (S.elements text) progress.place) },
+    ghost few: { progress.made ≤ most_bytes },
     ghost behind: { progress.spent ≡ false → progress.made ≤ progress.place },
     ghost looked: { IsSeenOf (F.marks searcher (S.elements text)) seen },
 }

@@ -1,6 +1,6 @@
 // A tray of 80 bytes that is held by value.
-ghost use Rattle.std.specs.Prelude.{◌≡◌, []};
-ghost use Rattle.trays.specs.Labels.{label_contents};
+ghost use Rattle.std.specs.Prelude.{◌≡◌, ◌≤◌, [], length};
+ghost use Rattle.trays.specs.Labels.{label_bytes, label_contents};
 
 use super::container::AnyStrContainer;
 use super::put::put;
@@ -42,9 +42,10 @@ impl Label {
         }
     }
 
-    /// The bytes that it holds.
+    /// The bytes that it holds, at most `LABEL_BYTES`.
     pub fn as_bytes(&self) -> &[u8]
-        ensures { result.now ≡ self.now }
+        ensures held { result.now ≡ self.now }
+        ensures few { length self.now ≤ label_bytes }
     {
         &self.bytes[..self.len]
     }

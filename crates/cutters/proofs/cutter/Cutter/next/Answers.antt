@@ -62,18 +62,21 @@ returns g c =
 pub invariant_of-self : goal.invariant_of-self
 invariant_of-self g c =
     let k = c.args.self.now in
-    record { placed = k.placed; behind = k.behind; looked = (c.in_default.ensures k.looked).seen }
+    record { placed = k.placed; few = k.few; behind = k.behind; looked = (c.in_default.ensures k.looked).seen }
 
 pub invariant_of-self-2 : goal.invariant_of-self-2
 invariant_of-self-2 g c =
     let k = c.args.self.now in
     let step = c.in-Some.ensures k.looked in
     let found = step.value in
-    let long = (g.met.F.Searcher.lawful k.searcher k.text).nonempty _ _ found.is in
+    let law = g.met.F.Searcher.lawful k.searcher k.text in
+    let long = law.nonempty _ _ found.is in
+    let within = law.within _ _ found.is in
     let from = found.after in
     let behind = k.behind c.if-self.false in
     record {
       placed = boundary_true (g.S.AnyStr.elements k.text) c.in-Some.mark.end step.cut.1;
+      few = omega (arith, g.S.AnyStr.few k.text);
       behind = λ _. omega arith;
       looked = step.seen;
     }

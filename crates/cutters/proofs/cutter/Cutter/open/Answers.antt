@@ -21,6 +21,7 @@ invariant_of-result g c =
     let at = c.from_place.ensures in
     record {
       placed = boundary_true (g.S.AnyStr.elements c.args.text) _ (0, λ i. (sym at i).place);
+      few = omega (arith, ap (λ (s : State). s.made) at);
       behind = λ _. omega (arith, ap (λ (s : State). s.made) at);
       looked = c.nothing.ensures (g.F.Searcher.marks c.args.searcher (g.S.AnyStr.elements c.args.text));
     }
