@@ -8,7 +8,7 @@ use Rattle.searchers.specs.declared.seen.Seen.{Seen}
 use Rattle.searchers.specs.declared.seen.SeenBack.{SeenBack}
 use Rattle.searchers.specs.Marks.{Marks, Bounded, Lawful, Finds, FindsBack, OnBoundaries}
 use Rattle.searchers.specs.Seen.{Begins, IsSeenOf, MayBegin, NoneBegins, Rest}
-use Rattle.searchers.specs.Seen.{Ends, IsSeenBackOf, MayEnd, NoneEnds, RestBack}
+use Rattle.searchers.specs.Seen.{Ends, FindsBackWithin, IsSeenBackOf, MayEnd, NoneEnds, RestBack}
 
 -- what is found of marks that lie on boundaries lies on boundaries
 pub found_on : (es : List (List ℕ)) (marks : Marks) (from : ℕ) (r : Option Mark) → Bounded es marks
@@ -38,6 +38,12 @@ pub none_further : (marks : Marks) (from at end : ℕ) → NoneBegins marks from
     → NoneBegins marks from end
 none_further marks from at end front back b d ge lt m =
     ⊎_elim (λ before. front b d ge before m) (λ past. back b d past lt m) (cases_lt b at)
+
+-- where no mark begins up to the end of the text, none is found
+pub none_to_end : (marks : Marks) (from end len : ℕ) → Lawful marks len → len ≤ end → NoneBegins marks from end
+    → Finds marks from None
+none_to_end marks from end len law past none b d ge m =
+    let some = law.nonempty b d m in let within = law.within b d m in none b d ge (omega arith) m
 
 -- 64 bits tell of no offset past as many
 pub whole_begins : (marks : Marks) (at bits : ℕ) → bits < 18446744073709551616 → MayBegin marks at (at + 64) bits
@@ -73,6 +79,13 @@ found_earlier marks before to (Some m) le clear found = record {
   greatest = λ b d ge t.
       ⊎_elim (λ past. absurd (clear b d past ge t)) (λ within. found.greatest b d within t) (cases_lt to d);
 }
+
+-- what is found after the start of the text is what a search finds
+pub found_to_start : (marks : Marks) (len to : ℕ) (r : Option Mark) → Lawful marks len → FindsBackWithin marks 0 to r
+    → FindsBack marks to r
+found_to_start marks len to None law none = λ b d le m.
+    let some = law.nonempty b d m in none b d (omega arith) le m
+found_to_start marks len to (Some m) law found = found
 
 -- no mark ends after an offset and up to there
 pub none_back : (marks : Marks) (at to before : ℕ) → NoneEnds marks to before → NoneEnds marks at to

@@ -1,2 +1,1 @@
 pub mod OnBytes
-pub mod Ranges

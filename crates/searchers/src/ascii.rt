@@ -7,7 +7,7 @@ ghost use Rattle.searchers.specs.Marks.{Bounded, Finds, FindsBack, OnBoundaries}
 ghost use Rattle.searchers.specs.Seen.{IsSeenOf, IsSeenBackOf, Resumes, ResumesBack};
 
 use super::mark::Mark;
-use super::scan::{Pattern, first_mark, last_mark, next_mark, previous_mark};
+use super::scan::{Pattern, first_mark, last_mark, next_close_mark, previous_mark};
 use super::seen::{Seen, SeenBack};
 use anystr::anystr::AnyStr;
 use anystr::bytes::Bytes;
@@ -65,7 +65,7 @@ pub fn next_ascii_mark<S: AsciiStr, P: AsciiPattern>(
         result seen.new }
 {
     text.ascii_apart();
-    next_mark(pattern, text.as_bytes(), from, seen)
+    next_close_mark(pattern, text.as_bytes(), from, seen)
 }
 
 /// The mark with the greatest end at or before the offset `before`; none exactly where there is

@@ -8,6 +8,15 @@ use super::lanes::{LANES, highest, lowest, without};
 use super::mark::Mark;
 use super::seen::{Seen, SeenBack};
 
+// The bits of a pattern that knows nothing: a mark may stand at each offset.
+const EVERYWHERE: u64 = u64::MAX;
+
+// Where fewer bytes are left, a look costs more than a question at each of them.
+pub(crate) const NEAR: usize = LANES / 2;
+
+// So many offsets are asked for before the first look of a search.
+const CLOSE: usize = 16;
+
 /// What is looked for in bytes: where marks may begin and end, and what stands there.
 pub trait Pattern {
     // the marks in these bytes
@@ -17,14 +26,24 @@ pub trait Pattern {
     ghost lawful: { (f : Self) (bs : List ℕ) → Lawful (marks f bs) (length bs) };
 
     /// Where marks may begin among the 64 offsets from `at` on: bit k is set where one begins at
-    /// `at + k`, and maybe elsewhere.
+    /// `at + k`, and maybe elsewhere. A pattern that does not say it is asked at each offset.
     fn begins(&self, bytes: &[u8], at: usize) -> u64
-        ensures { MayBegin (marks self.now bytes.now) at (at + 64) result };
+        ensures { MayBegin (marks self.now bytes.now) at (at + 64) result }
+    {
+        let _ = bytes;
+        let _ = at;
+        EVERYWHERE
+    }
 
     /// Where marks may end among the 64 offsets after `at`: bit k is set where one ends at
     /// `at + k + 1`, and maybe elsewhere.
     fn ends(&self, bytes: &[u8], at: usize) -> u64
-        ensures { MayEnd (marks self.now bytes.now) at result };
+        ensures { MayEnd (marks self.now bytes.now) at result }
+    {
+        let _ = bytes;
+        let _ = at;
+        EVERYWHERE
+    }
 
     /// An offset from `at` on, such that no mark begins from `at` up to it.
     fn skip(&self, bytes: &[u8], at: usize) -> usize
@@ -72,6 +91,20 @@ fn first_of<P: Pattern>(pattern: &P, bytes: &[u8], at: usize, begins: u64) -> Op
     None
 }
 
+// The first mark that begins from `from` up to `to`, by a question at each offset. A function of its
+// own, so that the other way of a search is short.
+#[inline(never)]
+fn first_near<P: Pattern>(pattern: &P, bytes: &[u8], from: usize, to: usize) -> Option<Mark>
+    ensures { FindsWithin (P.marks pattern.now bytes.now) from to result }
+{
+    for start in from..to {
+        if let Some(end) = pattern.mark_from(bytes, start) {
+            return Some(Mark { start, end });
+        }
+    }
+    None
+}
+
 // What is seen from an offset on.
 #[inline(always)]
 fn look<P: Pattern>(pattern: &P, bytes: &[u8], at: usize) -> Seen
@@ -94,7 +127,7 @@ fn look_on<P: Pattern>(pattern: &P, bytes: &[u8], seen: Seen) -> Seen
 {
     let at = seen.at + LANES;
     let next = look(pattern, bytes, at);
-    if seen.bits != 0 || next.bits != 0 {
+    if seen.bits != 0 || next.bits != 0 || bytes.len() - seen.at <= LANES + LANES {
         return next;
     }
     look(pattern, bytes, pattern.skip(bytes, at + LANES))
@@ -130,11 +163,17 @@ pub fn next_mark<P: Pattern>(
     ensures seen { IsSeenOf (P.marks pattern.now bytes.now) seen.old
         → IsSeenOf (P.marks pattern.now bytes.now) seen.new }
 {
+    if bytes.len().saturating_sub(from) < NEAR {
+        return first_near(pattern, bytes, from, bytes.len());
+    }
     let mut at = from;
     let mut left = bits_from(pattern, bytes, from, seen);
     while seen.at < bytes.len() {
         if let Some(mark) = first_of(pattern, bytes, at, left) {
             return Some(mark);
+        }
+        if bytes.len() - seen.at <= LANES {
+            return None;
         }
         *seen = look_on(pattern, bytes, *seen);
         at = seen.at;
@@ -143,12 +182,58 @@ pub fn next_mark<P: Pattern>(
     None
 }
 
+/// What `next_mark` gives. A mark at `from` itself is found without a look: so it is sooner where marks
+/// often stand one behind another.
+#[inline(always)]
+pub fn next_close_mark<P: Pattern>(
+    pattern: &P,
+    bytes: &[u8],
+    from: usize,
+    seen: &mut Seen,
+) -> Option<Mark>
+    ensures value { IsSeenOf (P.marks pattern.now bytes.now) seen.old
+        → Finds (P.marks pattern.now bytes.now) from result }
+    ensures seen { IsSeenOf (P.marks pattern.now bytes.now) seen.old
+        → IsSeenOf (P.marks pattern.now bytes.now) seen.new }
+{
+    if let Some(end) = pattern.mark_from(bytes, from) {
+        return Some(Mark { start: from, end });
+    }
+    next_mark(pattern, bytes, from, seen)
+}
+
 /// The mark with the least start at or after the offset `from`; none exactly where there is none.
 #[inline(always)]
 pub fn first_mark<P: Pattern>(pattern: &P, bytes: &[u8], from: usize) -> Option<Mark>
     ensures { Finds (P.marks pattern.now bytes.now) from result }
 {
-    next_mark(pattern, bytes, from, &mut Seen::nothing())
+    let mut start = from;
+    while start < bytes.len() {
+        if let Some(end) = pattern.mark_from(bytes, start) {
+            return Some(Mark { start, end });
+        }
+        start += 1;
+        if start - from == CLOSE {
+            return next_mark(pattern, bytes, start, &mut Seen::nothing());
+        }
+    }
+    None
+}
+
+// How many marks stand one behind another from `from` on, and where the last of them ends.
+#[inline(always)]
+fn row_from<P: Pattern>(pattern: &P, bytes: &[u8], from: usize) -> (usize, usize)
+    ensures few { from + result.0 ≤ result.1 }
+    ensures cut { (n : ℕ) → CutTimes (P.marks pattern.now bytes.now) result.1 n
+        → CutTimes (P.marks pattern.now bytes.now) from (result.0 + n) }
+{
+    let mut count = 0;
+    let mut place = from;
+    while let Some(end) = pattern.mark_from(bytes, place) {
+        count += 1;
+        place = end;
+    }
+    (count, place)
 }
 
 /// The number of marks that are cut from the offset `from` on, without overlap.
@@ -169,11 +254,12 @@ pub(crate) fn count_from<P: Pattern>(pattern: &P, bytes: &[u8], from: usize) -> 
                 continue;
             }
             if let Some(end) = pattern.mark_from(bytes, start) {
-                count += 1;
-                place = end;
+                let (behind, last) = row_from(pattern, bytes, end);
+                count += 1 + behind;
+                place = last;
             }
         }
-        at += LANES;
+        at = place.max(at + LANES);
     }
     count
 }
@@ -193,6 +279,20 @@ fn last_of<P: Pattern>(pattern: &P, bytes: &[u8], at: usize, ends: u64) -> Optio
             return Some(Mark { start, end });
         }
         left = without(left, bit);
+    }
+    None
+}
+
+// The last mark that ends after `at` up to `to`, by a question at each offset.
+#[inline(always)]
+fn last_near<P: Pattern>(pattern: &P, bytes: &[u8], at: usize, to: usize) -> Option<Mark>
+    ensures { FindsBackWithin (P.marks pattern.now bytes.now) at to result }
+{
+    for last in (at..to).rev() {
+        let end = last + 1;
+        if let Some(start) = pattern.mark_to(bytes, end) {
+            return Some(Mark { start, end });
+        }
     }
     None
 }
@@ -233,12 +333,7 @@ fn look_back<P: Pattern>(
         }
         to = look_down(pattern, bytes, at, ends);
     }
-    for end in (1..=to).rev() {
-        if let Some(start) = pattern.mark_to(bytes, end) {
-            return Some(Mark { start, end });
-        }
-    }
-    None
+    last_near(pattern, bytes, 0, to)
 }
 
 /// The mark with the greatest end at or before the offset `before`; none exactly where there is
@@ -273,5 +368,16 @@ pub fn previous_mark<P: Pattern>(
 pub fn last_mark<P: Pattern>(pattern: &P, bytes: &[u8], before: usize) -> Option<Mark>
     ensures { FindsBack (P.marks pattern.now bytes.now) before result }
 {
-    previous_mark(pattern, bytes, before, &mut SeenBack::nothing())
+    let to = before.min(bytes.len());
+    let mut end = to;
+    while end > 0 {
+        if let Some(start) = pattern.mark_to(bytes, end) {
+            return Some(Mark { start, end });
+        }
+        end -= 1;
+        if to - end == CLOSE {
+            return previous_mark(pattern, bytes, end, &mut SeenBack::nothing());
+        }
+    }
+    None
 }

@@ -12,7 +12,7 @@ ghost use Rattle.searchers.specs.substring.Substrings.{needle_of, needle_bytes};
 
 use crate::lanes::{LANES, places_among, times};
 use crate::mark::Mark;
-use crate::scan::{Pattern, count_from, next_mark, previous_mark};
+use crate::scan::{NEAR, Pattern, count_from, next_mark, previous_mark};
 use crate::searcher::{ReverseSearcher, Searcher};
 use crate::seen::{Seen, SeenBack};
 use anystr::anystr::AnyStr;
@@ -49,8 +49,10 @@ impl<S: AnyStr> Substring<S> {
 // Where fewer bytes are left, a search of its own for the rest costs more than it spares.
 const FAR: usize = 128;
 
+// The most bytes of a needle that are compared one by one: so few cost no call.
+const SHORT: usize = 8;
+
 // Whether the needle stands at `start`.
-// Byte by byte, and not by `==`: a short needle costs no call then.
 #[inline(always)]
 fn stands(needle: &[u8], bytes: &[u8], start: usize) -> bool
     ensures { IsTrue result ↔ Occurs bytes.now needle.now start }
@@ -60,6 +62,9 @@ fn stands(needle: &[u8], bytes: &[u8], start: usize) -> bool
     }
     if bytes.len().saturating_sub(start) < needle.len() {
         return false;
+    }
+    if needle.len() > SHORT {
+        return &bytes[start..start + needle.len()] == needle;
     }
     for (i, byte) in needle.iter().enumerate() {
         if bytes[start + i] != *byte {
@@ -226,7 +231,7 @@ impl<S: AnyStr> Searcher<S> for Substring<S> {
         let bytes = text.as_bytes();
         match self.needle.as_bytes() {
             [byte] => Some(count_byte(*byte, bytes, from)),
-            needle if needle.len() <= LANES => Some(count_from(
+            needle if needle.len() <= LANES && NEAR <= bytes.len() => Some(count_from(
                 &Needle { bytes: needle },
                 bytes,
                 from,

@@ -3,11 +3,11 @@ use Rattle.std.proofs.Common.{ℕ, Bool, List, length, ap, arith}
 use Rattle.std.specs.List.{concat}
 use Rattle.anystr.specs.OfBytes.{singles, concat-singles, boundary}
 use Rattle.searchers.specs.Marks.{Bounded}
-use Rattle.searchers.specs.bytesets.Sets.{member, single_bytes, single_bytes-is}
+use Rattle.searchers.specs.bytesets.Sets.{single_bytes, single_bytes-is}
 
 -- in Bytes every offset is a boundary
-pub bytes_on : (bs : List ℕ) (has : List Bool) → Bounded (singles bs) (single_bytes (member has) (concat (singles bs)))
-bytes_on bs has a e m =
-    let s = single_bytes-is (member has) (concat (singles bs)) a e m in
+pub bytes_on : (bs : List ℕ) (set : ℕ → Bool) → Bounded (singles bs) (single_bytes set (concat (singles bs)))
+bytes_on bs set a e m =
+    let s = single_bytes-is set (concat (singles bs)) a e m in
     let l = ap length (concat-singles bs) in
     (boundary bs a (omega arith), boundary bs e (omega arith))

@@ -8,7 +8,7 @@ use Rattle.searchers.specs.substring.Occurrences.{occurrence, occurrence-is}
 
 module _ (es : List (List ℕ)) (n : List ℕ) (whole : OccursOnBoundaries es n) where
   -- so each mark of the needle lies on boundaries
-  occurrences_on : Bounded es (occurrence n (concat es))
+  pub occurrences_on : Bounded es (occurrence n (concat es))
   occurrences_on a e m =
       let o = occurrence-is n (concat es) a e m in
       let w = whole a o.nonempty o.occurs in

@@ -5,9 +5,9 @@ ghost use Rattle.searchers.specs.Lanes.{Places};
 ghost use Rattle.searchers.specs.bytesets.Sets.{among, member, IsSetOf, AllBelow, LeastFrom};
 ghost use Rattle.searchers.specs.bytesets.Sets.{single_bytes, single_bytes-lawful};
 
-use crate::lanes::places_among;
+use crate::lanes::{LANES, places_among};
 use crate::mark::Mark;
-use crate::scan::{Pattern, first_mark, last_mark, next_mark, previous_mark};
+use crate::scan::{Pattern, first_mark, last_mark, next_close_mark, previous_mark};
 use crate::searcher::{ReverseSearcher, Searcher};
 use crate::seen::{Seen, SeenBack};
 use anystr::anystr::AnyStr;
@@ -71,13 +71,29 @@ impl ByteSet {
         self.has[byte as usize] = true;
     }
 
+    // Where bytes of the set stand among the 64 from `at` on, by a look-up of each.
+    fn looked_up(&self, bytes: &[u8], at: usize) -> u64
+        ensures { Places (has_byte self.now) bytes.now 64 at result }
+    {
+        let mut bits = 0u64;
+        let Some(rest) = bytes.get(at..) else {
+            return bits;
+        };
+        for k in 0..rest.len().min(LANES) {
+            if self.contains(rest[k]) {
+                bits |= 1 << k;
+            }
+        }
+        bits
+    }
+
     // Where bytes of the set may stand among the 64 from `at` on.
     #[inline(always)]
     fn places(&self, bytes: &[u8], at: usize) -> u64
         ensures { Places (has_byte self.now) bytes.now 64 at result }
     {
         if self.len > FEW {
-            return u64::MAX;
+            return self.looked_up(bytes, at);
         }
         places_among(bytes, at, &self.listed[..self.len])
     }
@@ -87,7 +103,12 @@ impl ByteSet {
         ensures { MatchOption result
             (AllBelow (has_byte self.now) low) (LeastFrom (has_byte self.now) low) }
     {
-        (low..=u8::MAX).find(|byte| self.contains(*byte))
+        for byte in low as usize..BYTE_VALUES {
+            if self.has[byte] {
+                return Some(byte as u8);
+            }
+        }
+        None
     }
 }
 
@@ -130,14 +151,13 @@ impl<'a> Searcher<Bytes<'a>> for ByteSet {
     ghost lawful = { λ f text. single_bytes-lawful (has_byte f)
         (concat (⟦<Bytes<'a> as AnyStr>⟧.elements text)) };
 
-    #[tactic(auto, using(crate::proofs::bytesets::OnBytes::bytes_on))]
     fn find(&self, text: &Bytes<'a>, from: usize) -> Option<Mark> {
         first_mark(self, text.as_bytes(), from)
     }
 
     #[inline(always)]
     fn resume(&self, text: &Bytes<'a>, from: usize, seen: &mut Seen) -> Option<Mark> {
-        next_mark(self, text.as_bytes(), from, seen)
+        next_close_mark(self, text.as_bytes(), from, seen)
     }
 
     fn mark_len(&self, _text: &Bytes<'a>) -> Option<usize> {
@@ -148,7 +168,6 @@ impl<'a> Searcher<Bytes<'a>> for ByteSet {
 impl<'a> ReverseSearcher<Bytes<'a>> for ByteSet {
     ghost use Rattle.searchers.specs.bytesets.ByteSets.{has_byte};
 
-    #[tactic(auto, using(crate::proofs::bytesets::OnBytes::bytes_on))]
     fn rfind(&self, text: &Bytes<'a>, before: usize) -> Option<Mark> {
         last_mark(self, text.as_bytes(), before)
     }

@@ -28,11 +28,12 @@ loop-left-preserved-in-Some g c =
     let end = c.in-Some.end in
     let inv = c.loop-left.invariant in
     let after = c.if-start-place.false in
-    let long = (g.P.Pattern.lawful c.args.pattern.now c.args.bytes.now).nonempty start end c.in-Some.ensures in (
-      omega (arith, inv.0),
+    let long = (g.P.Pattern.lawful c.args.pattern.now c.args.bytes.now).nonempty start end c.in-Some.ensures in
+    let row = c.row_from-behind.ensures in (
+      omega (arith, inv.0, row.few),
       inv.1,
-      λ b e ge lt m. absurd (omega arith),
-      λ n rest. subst (CutTimes marks c.args.from) (omega arith) (inv.3 (suc n) (
+      λ b e ge lt m. absurd (omega (arith, row.few)),
+      λ n rest. subst (CutTimes marks c.args.from) (omega arith) (inv.3 (suc (c.row_from-behind.result.0 + n)) (
         start,
         end,
         record {
@@ -49,10 +50,10 @@ loop-left-preserved-in-Some g c =
               (cases_lt b start))
               (cases_lt b at);
         },
-        rest,
+        row.cut n rest,
       )),
       λ b e past ge lt m.
-          let apart = λ (same : b - at ≡ c.lowest-bit.result). absurd (omega arith) in
+          let apart = λ (same : b - at ≡ c.lowest-bit.result). absurd (omega (arith, row.few)) in
           c.without-left.ensures.kept (b - at) (omega arith) apart ∙ inv.4 b e (omega arith) ge lt m,
     )
 

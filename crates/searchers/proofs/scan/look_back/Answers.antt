@@ -1,5 +1,5 @@
 use Rattle.std.proofs.Common.{ℕ, ◌-◌, Some, arith}
-use Rattle.searchers.proofs.Found.{found_earlier, none_back, whole_ends}
+use Rattle.searchers.proofs.Found.{found_earlier, found_to_start, none_back, whole_ends}
 use Rattle.searchers.proofs.scan.look_back.Goals as goal
 
 pub loop-to-init : goal.loop-to-init
@@ -35,11 +35,10 @@ returns-in-Some g c =
       seen = λ of. c.ends-ends.ensures;
     }
 
-pub returns : goal.returns
-returns g c =
-    record {
-      value = λ b d le m.
-          let some = (g.P.Pattern.lawful c.args.pattern.now c.args.bytes.now).nonempty b d m in
-          c.loop-end.invariant b d (omega arith) le m;
-      seen = c.loop-to.invariant.3;
-    }
+pub returns-clause-value : goal.returns-clause-value
+returns-clause-value g c =
+    let marks = g.P.Pattern.marks c.args.pattern.now c.args.bytes.now in
+    let inv = c.loop-to.invariant in
+    let law = g.P.Pattern.lawful c.args.pattern.now c.args.bytes.now in
+    let near = found_to_start marks _ c.loop-to.to c.last_near.result law c.last_near.ensures in
+    found_earlier marks c.args.before c.loop-to.to c.last_near.result inv.1 inv.2 near

@@ -11,6 +11,3 @@ invariant-loop-to g l =
 
 abbrev pub decreases-loop-to : goal.decreases-loop-to
 decreases-loop-to g l = l.to
-
-abbrev pub invariant-loop-end : goal.invariant-loop-end
-invariant-loop-end g l = NoneEnds (g.P.Pattern.marks l.pattern l.bytes) l.end l.before

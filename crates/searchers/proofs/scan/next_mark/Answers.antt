@@ -1,5 +1,5 @@
 use Rattle.std.proofs.Common.{ℕ, ◌+◌, arith, Some}
-use Rattle.searchers.proofs.Found.{found_later, none_further}
+use Rattle.searchers.proofs.Found.{found_later, none_further, none_to_end}
 use Rattle.searchers.proofs.scan.next_mark.Goals as goal
 
 pub loop-seen-init : goal.loop-seen-init
@@ -36,3 +36,12 @@ returns-in-Some-clause-value g c of =
     let before = c.loop-seen.invariant.3 of in
     let found = c.in-Some.ensures (c.loop-seen.seen.at + 64) before.1 in
     found_later marks c.args.from c.loop-seen.at (Some c.in-Some.mark) c.loop-seen.invariant.0 before.2 found
+
+pub returns-then-bytes-seen-le-LANES-clause-value : goal.returns-then-bytes-seen-le-LANES-clause-value
+returns-then-bytes-seen-le-LANES-clause-value g c of =
+    let marks = g.P.Pattern.marks c.args.pattern.now c.args.bytes.now in
+    let end : ℕ = c.loop-seen.seen.at + 64 in
+    let before = c.loop-seen.invariant.3 of in
+    let here = c.in_default.ensures end before.1 in
+    let none = none_further marks c.args.from c.loop-seen.at end before.2 here in
+    none_to_end marks c.args.from end _ (g.P.Pattern.lawful c.args.pattern.now c.args.bytes.now) (omega arith) none
