@@ -50,6 +50,33 @@ impl<S: AnyStr, F: ReverseSearcher<S>> BackCutter<S, F> {
         self.searcher.resume_back(&text, self.progress.place, seen)
     }
 
+    /// The next piece from the end, which begins at the end of the last mark up to the place; the
+    /// whole rest where there is none or the bound is used up; none where the cutter is spent.
+    // Beside the iterator's `next`, which asks for a searcher that can be dropped.
+    #[inline(always)]
+    pub fn next_piece(&mut self) -> Option<Piece>
+        ensures { BackStep self.old result self.new }
+    {
+        if self.progress.spent {
+            return None;
+        }
+        let end = self.progress.place;
+        let mut seen = self.seen;
+        let mark = self.next_mark(&mut seen);
+        self.seen = seen;
+        let Some(mark) = mark else {
+            self.progress.place = 0;
+            self.progress.spent = true;
+            return Some(Piece { start: 0, end });
+        };
+        self.progress.place = mark.start;
+        self.progress.made += 1;
+        Some(Piece {
+            start: mark.end,
+            end,
+        })
+    }
+
     // The number of pieces that are left, where a count from the front tells it: before the first
     // cut, without a bound, where all marks have one length.
     fn count_from_front(&self) -> Option<usize>
@@ -75,24 +102,7 @@ impl<S: AnyStr, F: ReverseSearcher<S> + Drop> Iterator for BackCutter<S, F> {
 
     #[inline(always)]
     fn next(&mut self) -> Option<Piece> {
-        if self.progress.spent {
-            return None;
-        }
-        let end = self.progress.place;
-        let mut seen = self.seen;
-        let mark = self.next_mark(&mut seen);
-        self.seen = seen;
-        let Some(mark) = mark else {
-            self.progress.place = 0;
-            self.progress.spent = true;
-            return Some(Piece { start: 0, end });
-        };
-        self.progress.place = mark.start;
-        self.progress.made += 1;
-        Some(Piece {
-            start: mark.end,
-            end,
-        })
+        self.next_piece()
     }
 }
 
