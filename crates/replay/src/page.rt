@@ -2,11 +2,14 @@
 use super::fault::Fault;
 use std::alloc::AllocError;
 
+const DIGITS: &[u8; 16] = b"0123456789abcdef";
+
 /// Writes a word and a byte string: `x` and two hexadecimal digits for each byte.
 pub fn write_bytes(word: &str, bytes: &[u8], page: &mut String) -> Result<(), AllocError> {
     write!(page, "{word} x")?;
-    for b in bytes {
-        write!(page, "{b:02x}")?;
+    for byte in bytes {
+        page.push(DIGITS[*byte as usize / 16] as char)?;
+        page.push(DIGITS[*byte as usize % 16] as char)?;
     }
     Ok(())
 }

@@ -11,7 +11,7 @@ use bytesinner::finds::either::Either;
 use bytesinner::lines::SplitLinesArgs;
 use std::alloc::Global;
 
-const NO_PLACES: &str = ".";
+const NO_PLACES: &[u8; 1] = b".";
 
 fn split(words: &mut Words<'_>, end: End) -> Result<Split, Fault> {
     Ok(Split {
@@ -34,8 +34,8 @@ fn splitlines(words: &mut Words<'_>) -> Result<SplitLines, Fault> {
 }
 
 impl FromWord for Place {
-    fn from_word(word: &str, heap: Global) -> Result<Place, Fault> {
-        let mut ends = Words::new(word, '-', heap);
+    fn from_word(word: &[u8], heap: Global) -> Result<Place, Fault> {
+        let mut ends = Words::new(word, b'-', heap);
         let start = ends.read()?;
         let end = ends.read()?;
         ends.finish()?;
@@ -44,11 +44,11 @@ impl FromWord for Place {
 }
 
 impl FromWord for Vec<Place> {
-    fn from_word(word: &str, heap: Global) -> Result<Vec<Place>, Fault> {
-        if word == NO_PLACES {
+    fn from_word(word: &[u8], heap: Global) -> Result<Vec<Place>, Fault> {
+        if word == NO_PLACES.as_slice() {
             return Ok(Vec::new(heap));
         }
-        Words::new(word, ',', heap).rest()
+        Words::new(word, b',', heap).rest()
     }
 }
 
@@ -89,12 +89,12 @@ fn part(words: &mut Words<'_>) -> Result<Part, Fault> {
 }
 
 impl FromWord for Sought {
-    fn from_word(word: &str, heap: Global) -> Result<Sought, Fault> {
-        let mut parts = Words::new(word, ':', heap);
+    fn from_word(word: &[u8], heap: Global) -> Result<Sought, Fault> {
+        let mut parts = Words::new(word, b':', heap);
         let sought = match parts.word()? {
-            "sub" => Sought::Substring(parts.read()?),
-            "set" => Sought::Set(parts.read()?),
-            "lines" => Sought::LineEnds,
+            b"sub" => Sought::Substring(parts.read()?),
+            b"set" => Sought::Set(parts.read()?),
+            b"lines" => Sought::LineEnds,
             _ => return Err(Fault::NoCase),
         };
         parts.finish()?;
@@ -103,13 +103,13 @@ impl FromWord for Sought {
 }
 
 impl FromWord for Request {
-    fn from_word(word: &str, heap: Global) -> Result<Request, Fault> {
-        let mut parts = Words::new(word, ':', heap);
+    fn from_word(word: &[u8], heap: Global) -> Result<Request, Fault> {
+        let mut parts = Words::new(word, b':', heap);
         let request = match parts.word()? {
-            "next" => Request::Next,
-            "skip" => Request::Skip(parts.read()?),
-            "rest" => Request::Rest,
-            "pour" => Request::Pour {
+            b"next" => Request::Next,
+            b"skip" => Request::Skip(parts.read()?),
+            b"rest" => Request::Rest,
+            b"pour" => Request::Pour {
                 to: parts.read()?,
                 room: parts.room()?,
             },
@@ -154,26 +154,26 @@ fn search<F: FnOnce(&mut Words<'_>) -> Result<Task, Fault>>(
     })
 }
 
-fn question(words: &mut Words<'_>, name: &str) -> Result<Question, Fault> {
+fn question(words: &mut Words<'_>, name: &[u8]) -> Result<Question, Fault> {
     match name {
-        "split" => Ok(Question::Split(split(words, End::Front)?)),
-        "rsplit" => Ok(Question::Split(split(words, End::Back)?)),
-        "splitlines" => Ok(Question::SplitLines(splitlines(words)?)),
-        "join" => Ok(Question::Join(join(words)?)),
-        "replace" => Ok(Question::Replace(replace(words)?)),
-        "element" => Ok(Question::Element(element(words)?)),
-        "getbytes" => Ok(Question::Part(part(words)?)),
-        "mark" => Ok(Question::Search(search(words, first)?)),
-        "rmark" => Ok(Question::Search(search(words, last)?)),
-        "cutter" => Ok(Question::Search(search(words, cut)?)),
+        b"split" => Ok(Question::Split(split(words, End::Front)?)),
+        b"rsplit" => Ok(Question::Split(split(words, End::Back)?)),
+        b"splitlines" => Ok(Question::SplitLines(splitlines(words)?)),
+        b"join" => Ok(Question::Join(join(words)?)),
+        b"replace" => Ok(Question::Replace(replace(words)?)),
+        b"element" => Ok(Question::Element(element(words)?)),
+        b"getbytes" => Ok(Question::Part(part(words)?)),
+        b"mark" => Ok(Question::Search(search(words, first)?)),
+        b"rmark" => Ok(Question::Search(search(words, last)?)),
+        b"cutter" => Ok(Question::Search(search(words, cut)?)),
         _ => Err(Fault::NoCase),
     }
 }
 
 // What find looks for: a byte string or a number.
 impl FromWord for Either<Vec<u8>, i64> {
-    fn from_word(word: &str, heap: Global) -> Result<Either<Vec<u8>, i64>, Fault> {
-        if word.starts_with('x') {
+    fn from_word(word: &[u8], heap: Global) -> Result<Either<Vec<u8>, i64>, Fault> {
+        if word.starts_with(b"x") {
             Ok(Either::A(FromWord::from_word(word, heap)?))
         } else {
             Ok(Either::B(FromWord::from_word(word, heap)?))
@@ -208,28 +208,28 @@ fn maketrans(words: &mut Words<'_>) -> Result<Maketrans, Fault> {
 }
 
 // What is asked of a text, whose kind stands before it.
-fn of_kind(words: &mut Words<'_>, name: &str) -> Result<Case, Fault> {
+fn of_kind(words: &mut Words<'_>, name: &[u8]) -> Result<Case, Fault> {
     match words.word()? {
-        "bytes" => Ok(Case::Bytes(question(words, name)?)),
-        "text" => Ok(Case::Text(question(words, name)?)),
+        b"bytes" => Ok(Case::Bytes(question(words, name)?)),
+        b"text" => Ok(Case::Text(question(words, name)?)),
         _ => Err(Fault::NoCase),
     }
 }
 
 fn case(words: &mut Words<'_>) -> Result<Case, Fault> {
     match words.word()? {
-        "find" => Ok(Case::Find(find(words)?)),
-        "rfind" => Ok(Case::Rfind(find(words)?)),
-        "count" => Ok(Case::Count(find(words)?)),
-        "translate" => Ok(Case::Translate(translate(words)?)),
-        "maketrans" => Ok(Case::Maketrans(maketrans(words)?)),
+        b"find" => Ok(Case::Find(find(words)?)),
+        b"rfind" => Ok(Case::Rfind(find(words)?)),
+        b"count" => Ok(Case::Count(find(words)?)),
+        b"translate" => Ok(Case::Translate(translate(words)?)),
+        b"maketrans" => Ok(Case::Maketrans(maketrans(words)?)),
         name => of_kind(words, name),
     }
 }
 
 /// The case of a line; no word may be left over.
-pub fn read_case(line: &str, heap: Global) -> Result<Case, Fault> {
-    let mut words = Words::new(line, ' ', heap);
+pub fn read_case(line: &[u8], heap: Global) -> Result<Case, Fault> {
+    let mut words = Words::new(line, b' ', heap);
     let case = case(&mut words)?;
     words.finish()?;
     Ok(case)

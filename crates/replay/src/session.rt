@@ -39,9 +39,8 @@ fn write_case(case: &Case, desk: &mut Desk) -> Result<(), Fault> {
     }
 }
 
-// Reads a line and writes its answer. No word of a case is beyond ASCII.
+// Reads a line and writes its answer.
 fn write_line(line: &[u8], heap: Global, desk: &mut Desk) -> Result<(), Fault> {
-    let line = str::from_utf8(line).map_err(|_| Fault::NoCase)?;
     write_case(&read_case(line, heap)?, desk)
 }
 

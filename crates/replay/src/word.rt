@@ -1,51 +1,63 @@
 // What a word stands for.
 use super::fault::Fault;
 use std::alloc::Global;
-use std::str::FromStr;
 
-const ABSENT: &str = "-";
+const ABSENT: &[u8; 1] = b"-";
+
+const BASE: u64 = 10;
 
 /// What a word can be read as.
 pub trait FromWord: Sized {
     /// What the word says; no case where it says nothing of this type.
-    fn from_word(word: &str, heap: Global) -> Result<Self, Fault>;
+    fn from_word(word: &[u8], heap: Global) -> Result<Self, Fault>;
 }
 
-// A number. A sign stands before a negative one alone.
-fn number<T: FromStr>(word: &str) -> Result<T, Fault>
-where
-    T::Err: Drop,
-{
-    if word.starts_with('+') {
+// A number with one digit more.
+fn with_digit(number: u64, digit: &u8) -> Option<u64> {
+    match digit {
+        b'0'..=b'9' => number
+            .checked_mul(BASE)?
+            .checked_add((*digit - b'0') as u64),
+        _ => None,
+    }
+}
+
+// A number without a sign. `parse` takes longer over so few digits, and a plus sign too.
+fn natural(word: &[u8]) -> Result<u64, Fault> {
+    if word.is_empty() {
         return Err(Fault::NoCase);
     }
-    word.parse::<T>().map_err(|_| Fault::NoCase)
-}
-
-// One by one: an impl for whatever parses would overlap those for `bool` and byte strings.
-impl FromWord for i64 {
-    fn from_word(word: &str, _: Global) -> Result<i64, Fault> {
-        number(word)
-    }
+    word.iter().try_fold(0, with_digit).ok_or(Fault::NoCase)
 }
 
 impl FromWord for u64 {
-    fn from_word(word: &str, _: Global) -> Result<u64, Fault> {
-        number(word)
+    fn from_word(word: &[u8], _: Global) -> Result<u64, Fault> {
+        natural(word)
     }
 }
 
 impl FromWord for usize {
-    fn from_word(word: &str, _: Global) -> Result<usize, Fault> {
-        number(word)
+    fn from_word(word: &[u8], _: Global) -> Result<usize, Fault> {
+        Ok(natural(word)? as usize)
+    }
+}
+
+// A sign stands before a negative number alone.
+impl FromWord for i64 {
+    fn from_word(word: &[u8], _: Global) -> Result<i64, Fault> {
+        let number = match word {
+            [b'-', digits @ ..] => 0i64.checked_sub_unsigned(natural(digits)?),
+            _ => 0i64.checked_add_unsigned(natural(word)?),
+        };
+        number.ok_or(Fault::NoCase)
     }
 }
 
 impl FromWord for bool {
-    fn from_word(word: &str, _: Global) -> Result<bool, Fault> {
+    fn from_word(word: &[u8], _: Global) -> Result<bool, Fault> {
         match word {
-            "0" => Ok(false),
-            "1" => Ok(true),
+            b"0" => Ok(false),
+            b"1" => Ok(true),
             _ => Err(Fault::NoCase),
         }
     }
@@ -69,16 +81,21 @@ fn byte(digits: &[u8]) -> Result<u8, Fault> {
 
 // A byte string: `x` and two hexadecimal digits for each byte.
 impl FromWord for Vec<u8> {
-    fn from_word(word: &str, heap: Global) -> Result<Vec<u8>, Fault> {
-        let digits = word.strip_prefix('x').ok_or(Fault::NoCase)?;
-        digits.as_bytes().chunks(2).map(byte).try_collect(heap)
+    fn from_word(word: &[u8], heap: Global) -> Result<Vec<u8>, Fault> {
+        let digits = word.strip_prefix(b"x").ok_or(Fault::NoCase)?;
+        // Room for all at once: growing step by step costs half as much as reading.
+        let mut bytes = Vec::with_capacity(heap, digits.len() / 2)?;
+        for pair in digits.chunks(2) {
+            bytes.push(byte(pair)?).map_err(|_| Fault::NoMemory)?;
+        }
+        Ok(bytes)
     }
 }
 
 // What may be absent.
 impl<T: FromWord> FromWord for Option<T> {
-    fn from_word(word: &str, heap: Global) -> Result<Option<T>, Fault> {
-        if word == ABSENT {
+    fn from_word(word: &[u8], heap: Global) -> Result<Option<T>, Fault> {
+        if word == ABSENT.as_slice() {
             return Ok(None);
         }
         Ok(Some(T::from_word(word, heap)?))
