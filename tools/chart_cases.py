@@ -221,17 +221,24 @@ def cut(s, sep, *calls, bound=-1):
     return out + [f'tray    "{escaped(tray or b"")}"']
 
 
+VALUES = {'--format', '--file', '--sep', '--fields', '--bound'}
+FLAGS = {'--bytes', '--rows'}
+
+
 def answer(sheet, words):
-    """What a call shows, and its status."""
-    options = [w for w in words if w.startswith('--')]
-    values = {'--format', '--file', '--sep', '--fields', '--bound'}
-    places, named, skip = [], {}, None
-    for w in words:
+    """What a call shows, and its status. A word that begins with a hyphen and is no option is one like any other; but for `--` in a cut."""
+    places, named, options, skip = [], {}, set(), None
+    ends = words.index('--') if words[:1] == ['cut'] and '--' in words else len(words)
+    for n, w in enumerate(words):
+        if n >= ends:
+            places += words[ends + 1:]
+            break
         if skip:
             named[skip], skip = w, None
-        elif w in values:
-            skip = w
-        elif not w.startswith('--'):
+        elif w in VALUES | FLAGS:
+            options.add(w)
+            skip = w if w in VALUES else None
+        else:
             places.append(w)
     s = Sheet(sheet, options)
     sep = unescaped(named.get('--sep', ','))
@@ -273,6 +280,11 @@ def write(name, sheet, words, of=None):
     """A call that shows something: of the sheet at the standard input, or of the one that is named."""
     out, status = answer(sheet if of is None else of, words)
     store(name, sheet if of is None else b'', words, out, [], status)
+
+
+def misuse(name, words, message):
+    """A call that the library for the words refuses, in its lines."""
+    store(name, b'a,b', words, [], message.split('\n') + ['', "For more information, try '--help'."], 1)
 
 
 def refuse(name, words, message):
@@ -369,6 +381,38 @@ def main():
     refuse('cut-empty', ['cut', '', 'next'], 'refused (1): nothing to look for, or to separate at')
     refuse('cut-no-call', ['cut', ',', 'nxt'], "'nxt' is no call on a cutter: next, skip:N, rest and pour:TO are")
     refuse('cut-no-number', ['cut', ',', 'skip:-1'], "'skip:-1' is no call on a cutter: next, skip:N, rest and pour:TO are")
+
+    hyphens = b'a--b -9999 -x a -33.9 -h\n--rows,-1\n'
+    write('hyphen-split', hyphens, ['split', '-x'])
+    write('hyphen-split-once', hyphens, ['split', '-9999', '1', '--rows'])
+    write('hyphen-split-number', hyphens, ['split', '-1', '-1'])
+    write('hyphen-rsplit', hyphens, ['rsplit', '--bytes', '-', '2'])
+    write('hyphen-find', hyphens, ['find', '-33.9'])
+    write('hyphen-rfind', hyphens, ['rfind', '-h\\n'])
+    write('hyphen-count', hyphens, ['count', '-9999', '--bytes'])
+    write('hyphen-count-long', hyphens, ['count', '--b '])
+    write('hyphen-count-help', hyphens, ['count', '\\x2dh'])
+    write('hyphen-replace', hyphens, ['replace', '-9999', 'NA'])
+    write('hyphen-replace-to', hyphens, ['replace', ',', '-9999', '-1'])
+    write('hyphen-translate', hyphens, ['translate', '-x', '-y', '-'])
+    write('hyphen-join', hyphens, ['join', '-x'])
+    write('hyphen-cut', hyphens, ['cut', '-x', 'next', 'rest'])
+    write('hyphen-option', hyphens, ['count', '\\x2d-rows'])
+    write('hyphens-split', hyphens, ['split', '--'])
+    write('hyphens-split-once', hyphens, ['split', '--', '1'])
+    write('hyphens-split-rows', hyphens, ['split', '--', '--rows'])
+    write('hyphens-rsplit', hyphens, ['rsplit', '--', '1'])
+    write('hyphens-count', hyphens, ['count', '--'])
+    write('hyphens-replace', hyphens, ['replace', 'a', '--', '1'])
+    write('hyphens-replace-both', hyphens, ['replace', '--', '--', '1'])
+    write('hyphens-translate', hyphens, ['translate', 'a', 'b', '--'])
+    write('hyphens-join', hyphens, ['join', '--'])
+    write('hyphens-cut', hyphens, ['cut', '--', '--', 'next', 'rest'])
+    misuse('hyphens-number', ['split', ',', '--'], "error: invalid value '--' for '[MAXSPLIT]': invalid digit found in string")
+    misuse('hyphens-behind', ['find', '-a', '--'], "error: unexpected argument '--' found\n\nUsage: chart find [OPTIONS] <SUB>")
+    refuse('hyphens-keep', ['lines', '--'], "'--' is not 'keep', the one word that lines takes")
+    misuse('near-option', ['split', '--row', ','],
+           "error: unexpected argument '--row' found\n\n  tip: a similar argument exists: '--rows'\n\nUsage: chart split --rows [SEP] [MAXSPLIT]")
 
     escapes = '; \\t, \\n, \\r, \\\\ and \\xHH are escapes'
     refuse('escape-unknown', ['split', 'a\\q'], "SEP: a backslash before 'q' is no escape" + escapes)

@@ -13,7 +13,7 @@ import time
 import chart_cases
 
 CHART = os.path.join(chart_cases.ROOT, 'crates', 'chart', 'out', 'chart')
-PIECES = [b',', b';', b'\n', b'\r', b'\r\n', b'\t', b'\\', b'"', b' ', b'a', b'Quay', b'101', b'WGS 84', 'ü'.encode(), '€'.encode(), b'\xff', b'\xc3', b'\x00']
+PIECES = [b',', b';', b'-', b'--', b'-9999', b'\n', b'\r', b'\r\n', b'\t', b'\\', b'"', b' ', b'a', b'Quay', b'101', b'WGS 84', 'ü'.encode(), '€'.encode(), b'\xff', b'\xc3', b'\x00']
 WORDS = [',', ';', 'a', 'Quay', '\\t', '\\n', '\\r\\n', '\\\\', '\\x2c', '\\xc3', '\\xff', 'ü', '1', '0', '-1', '99999999999999999999', 'keep', '', '\\q', '\\', '-x', '--',
          '--rows', '--bytes', '--format', 'tsv', '--sep', '--fields', '--bound', '--file', '2', 'next', 'skip:1', 'skip:x', 'rest', 'pour:; ', 'pour:\\t', '--help', 'spilt',
          'nothing here', *chart_cases.METHODS, 'check', 'cut', 'help']
@@ -29,9 +29,15 @@ def sep_of(dice, sheet):
     return dice.choice([',', ';', 'a', '\\n', '\\t', 'ü', 'Quay', '\\\\'] + (['\\xff', '\\xc3'] if chart_cases.text_of(sheet) is None else []))
 
 
+def text_of(dice, sheet):
+    """A text for a method: it may begin with a hyphen."""
+    return dice.choice([sep_of(dice, sheet)] * 3 + ['-', '--', '---', '-x', '-1', '-9999', '--x', '-,', '-\\n', '\\x2d-rows'])
+
+
 def good_words(dice, sheet):
     """Words that chart_cases.py can answer."""
     sep = sep_of(dice, sheet)
+    text = text_of(dice, sheet)
     tsv = dice.choice([[], [], ['--format', 'tsv']])
     rows = dice.choice([[], ['--rows']])
     name = dice.choice(['view', 'check', 'split', 'words', 'rsplit', 'lines', 'find', 'rfind', 'count', 'replace', 'join', 'cut'])
@@ -40,16 +46,16 @@ def good_words(dice, sheet):
     if name == 'check':
         return ['check', '--sep', sep] + dice.choice([[], ['--fields', '2']]) + tsv
     if name in ('split', 'rsplit'):
-        return [name, sep] + dice.choice([[], [str(dice.randrange(-1, 4))]]) + rows + tsv
+        return [name, text] + dice.choice([[], [str(dice.randrange(-1, 4))]]) + rows + tsv
     if name == 'words':
         return [dice.choice(['split', 'rsplit'])] + rows + tsv
     if name == 'lines':
         return ['lines'] + dice.choice([[], ['keep']]) + tsv
     if name == 'replace':
-        return ['replace', sep, sep_of(dice, sheet)] + dice.choice([[], ['2']])
+        return ['replace', text, text_of(dice, sheet)] + dice.choice([[], ['2'], ['-1']])
     if name == 'cut':
-        return ['cut', sep, '--bound', str(dice.randrange(-1, 4))] + [dice.choice(CALLS) for _ in range(dice.randrange(1, 6))]
-    return [name, sep]
+        return ['cut', sep if text == '--' else text, '--bound', str(dice.randrange(-1, 4))] + [dice.choice(CALLS) for _ in range(dice.randrange(1, 6))]
+    return [name, text]
 
 
 def run(words, sheet):

@@ -41,24 +41,15 @@ fn list<S: AsciiStr>(
     }
 }
 
-// A text is first taken to have at most one place in so many bytes: most sheets have no more, and
-// are then gone through once less.
-const SPARSE: usize = 8;
-
 /// The places that the method lists.
 pub fn listed<S: AsciiStr>(
     heap: Global,
     sheet: &S,
     listing: &Listing<S>,
 ) -> Result<Vec<Place>, Stop> {
-    let guess = sheet.bytes_len() / SPARSE + 1;
-    let mut places = vec![in heap; Place::default(); guess]?;
-    let mut answer = list(sheet, listing, places.as_mut_slice());
-    if let Err(Refusal::TooSmall { needed }) = answer {
-        places = vec![in heap; Place::default(); needed as usize]?;
-        answer = list(sheet, listing, places.as_mut_slice());
-    }
-    places.truncate(answer?);
+    let n = room(list(sheet, listing, &mut []))?;
+    let mut places = vec![in heap; Place::default(); n]?;
+    list(sheet, listing, places.as_mut_slice())?;
     Ok(places)
 }
 

@@ -7,6 +7,7 @@ mod asked;
 mod compare;
 mod cut;
 mod edit;
+mod hyphens;
 mod input;
 mod listing;
 mod page;
@@ -21,9 +22,11 @@ use anystr::bytes::Bytes;
 use asked::{Ask, Manner, read_asked};
 use clap::error::ErrorKind;
 use clap::{ArgMatches, Error};
+use hyphens::guarded;
 use input::read_sheet;
 use page::Page;
 use std::alloc::Global;
+use std::env::{Env, FillError};
 use std::process::ExitCode;
 use std::{env, io};
 use stop::Stop;
@@ -31,8 +34,12 @@ use text::Text;
 use trouble::Trouble;
 use words::{nearest, program};
 
-// The words, the program's name first.
+// The words, the program's name first; none at all where only the name was given, which need not be
+// text.
 fn read_words(rt: &HostRuntime) -> io::Result<Vec<String>> {
+    if let Err(FillError::NotPresent) = rt.arg(1, &mut []) {
+        return Ok(Vec::new(rt.alloc()));
+    }
     Ok(env::args(rt)?.collect(rt.alloc())?)
 }
 
@@ -109,8 +116,13 @@ fn help<'a>(rt: &HostRuntime, text: &Error) -> Result<bool, Trouble<'a>> {
     }
 }
 
-fn run<'a>(rt: &HostRuntime, words: &'a [String]) -> Result<bool, Trouble<'a>> {
-    match program(rt.alloc())?.try_get_matches_from(words) {
+// `words` are shown, and `guarded` is what clap reads.
+fn run<'a>(
+    rt: &HostRuntime,
+    words: &'a [String],
+    guarded: &'a [String],
+) -> Result<bool, Trouble<'a>> {
+    match program(rt.alloc())?.try_get_matches_from(guarded) {
         Ok(matches) => show_asked(rt, words, &matches),
         Err(error) if !error.use_stderr() => help(rt, &error),
         Err(error) => Err(misused(rt.alloc(), words, error)),
@@ -137,9 +149,17 @@ fn ended(rt: &HostRuntime, ran: Result<bool, Trouble<'_>>) -> ExitCode {
     }
 }
 
+// Reads these words, and does what they ask for.
+fn run_on(rt: &HostRuntime, words: &[String]) -> ExitCode {
+    match guarded(rt.alloc(), words) {
+        Ok(guarded) => ended(rt, run(rt, words, guarded.as_slice())),
+        Err(error) => ended(rt, Err(Trouble::from(error))),
+    }
+}
+
 fn main(rt: HostRuntime) -> ExitCode {
     match read_words(&rt) {
-        Ok(words) => ended(&rt, run(&rt, words.as_slice())),
+        Ok(words) => run_on(&rt, words.as_slice()),
         Err(error) => ended(&rt, Err(Trouble::Words(error))),
     }
 }

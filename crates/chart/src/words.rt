@@ -5,11 +5,13 @@ use strsim::damerau_levenshtein;
 
 /// How an argument is given.
 #[derive(Clone, Copy)]
-enum Form {
-    /// a word at its place
+pub enum Form {
+    /// a text at its place
     Needed,
-    /// a word at its place, which may be left out
+    /// a text at its place, which may be left out
     Optional,
+    /// a word at its place that is no text, which may be left out
+    Plain,
     /// a number at its place, which may be left out
     Number,
     /// all the words that are left
@@ -26,21 +28,48 @@ enum Form {
     Flag,
 }
 
+impl Form {
+    /// Whether a text stands at its place.
+    pub fn is_text(self) -> bool {
+        matches!(self, Form::Needed | Form::Optional)
+    }
+
+    /// Whether its name stands before a value.
+    pub fn has_value(self) -> bool {
+        matches!(
+            self,
+            Form::Option(_) | Form::Bound | Form::Count | Form::Format
+        )
+    }
+
+    /// Whether it is given by its name.
+    pub fn is_option(self) -> bool {
+        self.has_value() || matches!(self, Form::Flag)
+    }
+}
+
 /// An argument of a word.
 #[derive(Clone, Copy)]
-struct Given {
-    id: &'static str,
-    form: Form,
+pub struct Given {
+    pub id: &'static str,
+    pub form: Form,
     help: &'static str,
 }
 
 /// A word of the program.
 #[derive(Clone, Copy)]
-struct Word {
+pub struct Word {
     name: &'static str,
     about: &'static str,
     example: &'static str,
-    args: &'static [Given],
+    pub args: &'static [Given],
+}
+
+impl Word {
+    /// Whether it is a method of texts.
+    pub fn is_method(&self) -> bool {
+        !matches!(self.name, "check" | "cut")
+    }
 }
 
 pub const FILE: &str = "FILE";
@@ -79,7 +108,7 @@ pub const FORMAT: &str = "format";
 
 const THE_FILE: Given = Given {
     id: FILE,
-    form: Form::Optional,
+    form: Form::Plain,
     help: "The sheet; without it, the standard input",
 };
 
@@ -182,7 +211,7 @@ static WORDS: [Word; 11] = [
         args: &[
             Given {
                 id: KEEP,
-                form: Form::Optional,
+                form: Form::Plain,
                 help: "The word 'keep': each line with its end",
             },
             THE_ROWS,
@@ -300,16 +329,16 @@ static WORDS: [Word; 11] = [
 const ABOUT: &str = "Shows the rows and fields of a sheet, or what a method gives on it";
 
 const AFTER: &str =
-    "In SEP, SUB, FROM, TO and DELETE, \\t, \\n, \\r, \\\\ and \\xHH name a tab, a line
-feed, a carriage return, a backslash and the byte of this hexadecimal number; so
-they are shown, too. Messages go to the standard error, with status 1.
+    "In SEP, SUB, FROM, TO and DELETE, \\t, \\n, \\r, \\\\ and \\xHH name a tab, line feed,
+carriage return, backslash and the byte of this hexadecimal number; so they are
+shown. \\x2d-rows is no option. Messages go to the standard error, with status 1.
 Example: chart --sep ';' harbour.csv";
 
 fn arg_of<'a>(heap: Global, given: &Given) -> Arg<'a> {
     let arg = Arg::new(heap, given.id).help(given.help);
     match given.form {
         Form::Needed => arg.required(true),
-        Form::Optional => arg,
+        Form::Optional | Form::Plain => arg,
         Form::Number => arg
             .value_parser(value_parser!(i64))
             .allow_negative_numbers(true),
@@ -363,6 +392,11 @@ pub fn program<'a>(heap: Global) -> Result<Command<'a>, AllocError> {
         command = command.subcommand(command_of(heap, word)?)?;
     }
     Ok(command)
+}
+
+/// The word of the program that has this name.
+pub fn word_of(name: &str) -> Option<&'static Word> {
+    WORDS.iter().find(|word| word.name == name)
 }
 
 // So many slips of the hand still tell which word was meant.
