@@ -1,4 +1,5 @@
 pub mod Lefts
+pub mod Loans
 pub mod Skipped
 pub mod Sources
 pub mod Yields

@@ -2,7 +2,7 @@
 ghost use Rattle.std.specs.Prelude.{◌≡◌, length, take, drop, if◌then◌else◌, Ok, Err, nat_le};
 ghost use Rattle.anystr.specs.Refusals.{coded};
 ghost use Rattle.anystr.specs.Places.{Lists};
-ghost use Rattle.cutters.specs.pieces.Sources.{Filled};
+ghost use Rattle.cutters.specs.pieces.Sources.{Filled, Keeps};
 
 use super::source::Pieces;
 use anystr::place::Place;
@@ -23,10 +23,11 @@ pub fn room(needed: usize, places: &[Place]) -> Result<usize, Refusal>
 }
 
 /// Writes the next pieces into the places, one into each; a place past the last piece is as it was. The source goes on
-/// behind the pieces that are written.
+/// behind the pieces that are written, and keeps what each of its nexts keeps, such as a loan.
 pub fn fill<P: Pieces>(source: &mut P, places: &mut [Place])
     ensures written { Filled (take (length places.old) (P.left source.old)) places.old places.new }
     ensures left { P.left source.new ≡ drop (length places.old) (P.left source.old) }
+    ensures kept { Keeps P.next_gives source.old source.new }
 {
     // Not zipped: once an adapter of `iter_mut` has ended, a proof knows nothing of what was written through it.
     for place in places.iter_mut() {

@@ -12,6 +12,7 @@ use super::BackCutter;
 use anystr::anystr::AnyStr;
 use cutters::bound::{fewer, unbounded};
 use cutters::piece::Piece;
+use cutters::pieces::lent::NextPiece;
 use cutters::pieces::source::Pieces;
 use cutters::progress::Progress;
 use searchers::mark::Mark;
@@ -90,6 +91,17 @@ impl<S: AnyStr, F: ReverseSearcher<S>> BackCutter<S, F> {
         self.searcher.mark_len(&text)?;
         Some(self.searcher.count_cuts(&text, 0) + 1)
     }
+}
+
+impl<S: AnyStr, F: ReverseSearcher<S>> NextPiece for BackCutter<S, F> {
+    ghost left = { left_pieces };
+
+    #[inline(always)]
+    fn next_piece(&mut self) -> Option<Piece> {
+        BackCutter::next_piece(self)
+    }
+
+    ghost few = { λ c. (counts_down c (F.Searcher.lawful c.searcher c.text) (S.few c.text)).few };
 }
 
 impl<S: AnyStr, F: ReverseSearcher<S> + Drop> Iterator for BackCutter<S, F> {

@@ -12,11 +12,13 @@ loop-place-preserved g c =
     let left = g.P.Pieces.left c.next.new.self in
     let i : ℕ = c.loop-place.place-index in
     let piece = c.in-Some.piece in
+    let steps = c.in-Some.ensures.steps in
     let e = g.met.P.Pieces.gives c.loop-place.source (Some piece) c.next.new.self c.in-Some.ensures.steps in
     let at = comes xs left i (span piece) (sym c.loop-place.invariant.1 ∙ e) in (
       filled_more xs left i (span piece) c.args.places.now c.loop-place.places c.into.result at c.into.ensures
           (omega arith) c.loop-place.invariant.0,
       at.others,
+      λ of same. same c.loop-place.source c.next.new.self (Some piece) steps ∙ c.loop-place.invariant.2 of same,
     )
 
 pub returns-in_default : goal.returns-in_default
@@ -32,4 +34,6 @@ returns-in_default g c =
           (subst (λ (ps : List Span). Filled ps c.args.places.now c.loop-place.places)
           (all_taken xs i n (omega arith) none) c.loop-place.invariant.0);
       left = gave.1 ∙ sym (none_after xs i n (omega arith) none);
+      kept = λ of same. same c.loop-place.source c.next.new.self None c.in_default.ensures.steps
+          ∙ c.loop-place.invariant.2 of same;
     }
