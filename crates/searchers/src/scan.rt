@@ -91,10 +91,14 @@ fn first_of<P: Pattern>(pattern: &P, bytes: &[u8], at: usize, begins: u64) -> Op
     None
 }
 
-// The first mark that begins from `from` up to `to`, by a question at each offset. A function of its
-// own, so that the other way of a search is short.
-#[inline(never)]
-fn first_near<P: Pattern>(pattern: &P, bytes: &[u8], from: usize, to: usize) -> Option<Mark>
+// The first mark that begins from `from` up to `to`, by a question at each offset.
+#[inline(always)]
+pub(crate) fn first_asked<P: Pattern>(
+    pattern: &P,
+    bytes: &[u8],
+    from: usize,
+    to: usize,
+) -> Option<Mark>
     ensures { FindsWithin (P.marks pattern.now bytes.now) from to result }
 {
     for start in from..to {
@@ -103,6 +107,14 @@ fn first_near<P: Pattern>(pattern: &P, bytes: &[u8], from: usize, to: usize) -> 
         }
     }
     None
+}
+
+// The same as a function of its own, so that the other way of a search is short.
+#[inline(never)]
+fn first_near<P: Pattern>(pattern: &P, bytes: &[u8], from: usize, to: usize) -> Option<Mark>
+    ensures { FindsWithin (P.marks pattern.now bytes.now) from to result }
+{
+    first_asked(pattern, bytes, from, to)
 }
 
 // What is seen from an offset on.
@@ -285,7 +297,12 @@ fn last_of<P: Pattern>(pattern: &P, bytes: &[u8], at: usize, ends: u64) -> Optio
 
 // The last mark that ends after `at` up to `to`, by a question at each offset.
 #[inline(always)]
-fn last_near<P: Pattern>(pattern: &P, bytes: &[u8], at: usize, to: usize) -> Option<Mark>
+pub(crate) fn last_asked<P: Pattern>(
+    pattern: &P,
+    bytes: &[u8],
+    at: usize,
+    to: usize,
+) -> Option<Mark>
     ensures { FindsBackWithin (P.marks pattern.now bytes.now) at to result }
 {
     for last in (at..to).rev() {
@@ -333,7 +350,7 @@ fn look_back<P: Pattern>(
         }
         to = look_down(pattern, bytes, at, ends);
     }
-    last_near(pattern, bytes, 0, to)
+    last_asked(pattern, bytes, 0, to)
 }
 
 /// The mark with the greatest end at or before the offset `before`; none exactly where there is

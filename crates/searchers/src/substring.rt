@@ -49,29 +49,19 @@ impl<S: AnyStr> Substring<S> {
 // Where fewer bytes are left, a search of its own for the rest costs more than it spares.
 const FAR: usize = 128;
 
-// The most bytes of a needle that are compared one by one: so few cost no call.
-const SHORT: usize = 8;
-
-// Whether the needle stands at `start`.
+// Whether the needle, which is not empty, stands at `start`.
 #[inline(always)]
 fn stands(needle: &[u8], bytes: &[u8], start: usize) -> bool
+    requires { 0 < length needle.now }
     ensures { IsTrue result ↔ Occurs bytes.now needle.now start }
 {
     if let [byte] = needle {
         return bytes.get(start) == Some(byte);
     }
-    if bytes.len().saturating_sub(start) < needle.len() {
+    if bytes.len() < needle.len() || bytes.len() - needle.len() < start {
         return false;
     }
-    if needle.len() > SHORT {
-        return &bytes[start..start + needle.len()] == needle;
-    }
-    for (i, byte) in needle.iter().enumerate() {
-        if bytes[start + i] != *byte {
-            return false;
-        }
-    }
-    true
+    &bytes[start..start + needle.len()] == needle
 }
 
 // The bytes of a needle, as a pattern.

@@ -1,16 +1,14 @@
 // A set of bytes below 128, and the search for them in texts that keep such bytes apart.
-ghost use Rattle.std.specs.Prelude.{[], IfOk};
+ghost use Rattle.std.specs.Prelude.{[], IfOk, MatchOption};
 ghost use Rattle.std.specs.List.{concat};
 ghost use Rattle.anystr.specs.Texts.{bytes_of};
 ghost use Rattle.searchers.specs.bytesets.ByteSets.{has_byte};
 ghost use Rattle.searchers.specs.bytesets.OnText.{single_bytes-bounded};
-ghost use Rattle.searchers.specs.bytesets.Sets.{IsSetOf, AllBelow, AllAscii, AsciiChecked};
+ghost use Rattle.searchers.specs.bytesets.Sets.{IsSetOf, AllBelow, AllAscii, AsciiChecked, LeastFrom};
 ghost use Rattle.searchers.specs.bytesets.Sets.{single_bytes, single_bytes-lawful};
 
 use super::byteset::ByteSet;
-use crate::ascii::{
-    AsciiPattern, AsciiStr, first_ascii_mark, last_ascii_mark, next_ascii_mark, previous_ascii_mark,
-};
+use crate::ascii::{AsciiPattern, AsciiStr};
 use crate::mark::Mark;
 use crate::scan::Pattern;
 use crate::searcher::{ReverseSearcher, Searcher};
@@ -26,6 +24,19 @@ pub struct AsciiSet {
     ghost low: { AllBelow (has_byte set) 128 },
 }
 
+// The least byte of a set that is not below 128. The bytes it was made of are asked first: mostly
+// they are fewer than those from 128 on.
+fn least_non_ascii(bytes: &[u8], set: &ByteSet) -> Option<u8>
+    requires { IsSetOf bytes.now (has_byte set.now) }
+    ensures { MatchOption result
+        (AllBelow (has_byte set.now) 128) (LeastFrom (has_byte set.now) 128) }
+{
+    if bytes.is_ascii() {
+        return None;
+    }
+    set.least_from(FIRST_NON_ASCII)
+}
+
 impl<'a> TryFrom<&'a [u8]> for AsciiSet {
     ghost use Rattle.searchers.specs.bytesets.AsciiSets.{has_ascii};
 
@@ -38,7 +49,7 @@ impl<'a> TryFrom<&'a [u8]> for AsciiSet {
     /// there is one.
     fn try_from(bytes: &'a [u8]) -> Result<AsciiSet, Refusal> {
         let set = ByteSet::new(bytes);
-        match set.least_from(FIRST_NON_ASCII) {
+        match least_non_ascii(bytes, &set) {
             Some(least) => Err(Refusal::NotAscii { least }),
             None => Ok(AsciiSet { set }),
         }
@@ -100,7 +111,7 @@ impl AsciiPattern for AsciiSet {
     ghost bounded = { λ f. single_bytes-bounded (has_ascii f) f.low };
 }
 
-// As `LineEnds` has them, in a line each; `first_ascii_mark` says why no impl serves both.
+// `first_ascii_mark` says why no impl serves this and `LineEnds`.
 impl<S: AsciiStr> Searcher<S> for AsciiSet {
     ghost use Rattle.searchers.specs.bytesets.AsciiSets.{has_ascii};
 
@@ -109,12 +120,14 @@ impl<S: AsciiStr> Searcher<S> for AsciiSet {
     ghost lawful = { λ f text. single_bytes-lawful (has_ascii f) (bytes_of S.AnyStr text) };
 
     fn find(&self, text: &S, from: usize) -> Option<Mark> {
-        first_ascii_mark(self, text, from)
+        text.ascii_apart();
+        self.set.first_in(text.as_bytes(), from)
     }
 
     #[inline(always)]
     fn resume(&self, text: &S, from: usize, seen: &mut Seen) -> Option<Mark> {
-        next_ascii_mark(self, text, from, seen)
+        text.ascii_apart();
+        self.set.next_in(text.as_bytes(), from, seen)
     }
 
     fn mark_len(&self, _text: &S) -> Option<usize> {
@@ -124,11 +137,13 @@ impl<S: AsciiStr> Searcher<S> for AsciiSet {
 
 impl<S: AsciiStr> ReverseSearcher<S> for AsciiSet {
     fn rfind(&self, text: &S, before: usize) -> Option<Mark> {
-        last_ascii_mark(self, text, before)
+        text.ascii_apart();
+        self.set.last_in(text.as_bytes(), before)
     }
 
     #[inline(always)]
     fn resume_back(&self, text: &S, before: usize, seen: &mut SeenBack) -> Option<Mark> {
-        previous_ascii_mark(self, text, before, seen)
+        text.ascii_apart();
+        self.set.previous_in(text.as_bytes(), before, seen)
     }
 }

@@ -2,12 +2,16 @@
 ghost use Rattle.std.specs.Prelude.{◌≡◌, ℕ, ◌≤◌, true, ◌||◌, ◌==◌, take, MatchOption};
 ghost use Rattle.std.specs.List.{concat};
 ghost use Rattle.searchers.specs.Lanes.{Places};
+ghost use Rattle.searchers.specs.Marks.{Finds, FindsBack};
+ghost use Rattle.searchers.specs.Seen.{IsSeenOf, IsSeenBackOf};
 ghost use Rattle.searchers.specs.bytesets.Sets.{among, member, IsSetOf, AllBelow, LeastFrom};
 ghost use Rattle.searchers.specs.bytesets.Sets.{single_bytes, single_bytes-lawful};
 
 use crate::lanes::{LANES, places_among};
 use crate::mark::Mark;
-use crate::scan::{Pattern, first_mark, last_mark, next_close_mark, previous_mark};
+use crate::scan::{
+    Pattern, first_asked, first_mark, last_asked, last_mark, next_close_mark, previous_mark,
+};
 use crate::searcher::{ReverseSearcher, Searcher};
 use crate::seen::{Seen, SeenBack};
 use anystr::anystr::AnyStr;
@@ -98,6 +102,60 @@ impl ByteSet {
         places_among(bytes, at, &self.listed[..self.len])
     }
 
+    // The first byte of the set from `from` on. Of many bytes each offset is asked: a look asks as
+    // often.
+    pub(super) fn first_in(&self, bytes: &[u8], from: usize) -> Option<Mark>
+        ensures { Finds (single_bytes (has_byte self.now) bytes.now) from result }
+    {
+        if self.len > FEW {
+            return first_asked(self, bytes, from, bytes.len());
+        }
+        first_mark(self, bytes, from)
+    }
+
+    // The same, where `seen` is what was seen of the same bytes for the set; it goes on from there.
+    #[inline(always)]
+    pub(super) fn next_in(&self, bytes: &[u8], from: usize, seen: &mut Seen) -> Option<Mark>
+        ensures value { IsSeenOf (single_bytes (has_byte self.now) bytes.now) seen.old
+            → Finds (single_bytes (has_byte self.now) bytes.now) from result }
+        ensures seen { IsSeenOf (single_bytes (has_byte self.now) bytes.now) seen.old
+            → IsSeenOf (single_bytes (has_byte self.now) bytes.now) seen.new }
+    {
+        if self.len > FEW {
+            return first_asked(self, bytes, from, bytes.len());
+        }
+        next_close_mark(self, bytes, from, seen)
+    }
+
+    // The last byte of the set before `before`, as the first is found.
+    pub(super) fn last_in(&self, bytes: &[u8], before: usize) -> Option<Mark>
+        ensures { FindsBack (single_bytes (has_byte self.now) bytes.now) before result }
+    {
+        if self.len > FEW {
+            return last_asked(self, bytes, 0, before.min(bytes.len()));
+        }
+        last_mark(self, bytes, before)
+    }
+
+    // The same from what was seen from the end.
+    #[inline(always)]
+    pub(super) fn previous_in(
+        &self,
+        bytes: &[u8],
+        before: usize,
+        seen: &mut SeenBack,
+    ) -> Option<Mark>
+        ensures value { IsSeenBackOf (single_bytes (has_byte self.now) bytes.now) seen.old
+            → FindsBack (single_bytes (has_byte self.now) bytes.now) before result }
+        ensures seen { IsSeenBackOf (single_bytes (has_byte self.now) bytes.now) seen.old
+            → IsSeenBackOf (single_bytes (has_byte self.now) bytes.now) seen.new }
+    {
+        if self.len > FEW {
+            return last_asked(self, bytes, 0, before.min(bytes.len()));
+        }
+        previous_mark(self, bytes, before, seen)
+    }
+
     // The least byte of the set at or above `low`.
     pub(super) fn least_from(&self, low: u8) -> Option<u8>
         ensures { MatchOption result
@@ -152,12 +210,12 @@ impl<'a> Searcher<Bytes<'a>> for ByteSet {
         (concat (⟦<Bytes<'a> as AnyStr>⟧.elements text)) };
 
     fn find(&self, text: &Bytes<'a>, from: usize) -> Option<Mark> {
-        first_mark(self, text.as_bytes(), from)
+        self.first_in(text.as_bytes(), from)
     }
 
     #[inline(always)]
     fn resume(&self, text: &Bytes<'a>, from: usize, seen: &mut Seen) -> Option<Mark> {
-        next_close_mark(self, text.as_bytes(), from, seen)
+        self.next_in(text.as_bytes(), from, seen)
     }
 
     fn mark_len(&self, _text: &Bytes<'a>) -> Option<usize> {
@@ -169,11 +227,11 @@ impl<'a> ReverseSearcher<Bytes<'a>> for ByteSet {
     ghost use Rattle.searchers.specs.bytesets.ByteSets.{has_byte};
 
     fn rfind(&self, text: &Bytes<'a>, before: usize) -> Option<Mark> {
-        last_mark(self, text.as_bytes(), before)
+        self.last_in(text.as_bytes(), before)
     }
 
     #[inline(always)]
     fn resume_back(&self, text: &Bytes<'a>, before: usize, seen: &mut SeenBack) -> Option<Mark> {
-        previous_mark(self, text.as_bytes(), before, seen)
+        self.previous_in(text.as_bytes(), before, seen)
     }
 }

@@ -40,5 +40,5 @@ returns-clause-value g c =
     let marks = g.P.Pattern.marks c.args.pattern.now c.args.bytes.now in
     let inv = c.loop-to.invariant in
     let law = g.P.Pattern.lawful c.args.pattern.now c.args.bytes.now in
-    let near = found_to_start marks _ c.loop-to.to c.last_near.result law c.last_near.ensures in
-    found_earlier marks c.args.before c.loop-to.to c.last_near.result inv.1 inv.2 near
+    let near = found_to_start marks _ c.loop-to.to c.last_asked.result law c.last_asked.ensures in
+    found_earlier marks c.args.before c.loop-to.to c.last_asked.result inv.1 inv.2 near

@@ -10,8 +10,8 @@ pub returns : goal.returns
 returns c of =
     let bs = c.args.text.now.bytes.now in
     let marks = single_bytes (has_byte c.args.self.now) (concat (singles bs)) in
-    let found = rw c.as_bytes.ensures at c.previous_mark.ensures in
+    let found = rw c.as_bytes.ensures at c.previous_in.ensures in
     let value = found.value of in
     let on = bytes_on bs (has_byte c.args.self.now) in
-    let cut = found_back_on (singles bs) marks c.args.before c.previous_mark.result on value in
+    let cut = found_back_on (singles bs) marks c.args.before c.previous_in.result on value in
     record { value = value; cut = cut; seen = found.seen of }

@@ -10,7 +10,7 @@ pub returns : goal.returns
 returns c of =
     let bs = c.args.text.now.bytes.now in
     let marks = single_bytes (has_byte c.args.self.now) (concat (singles bs)) in
-    let found = rw c.as_bytes.ensures at c.next_close_mark.ensures in
+    let found = rw c.as_bytes.ensures at c.next_in.ensures in
     let value = found.value of in
-    let cut = found_on (singles bs) marks c.args.from c.next_close_mark.result (bytes_on bs (has_byte c.args.self.now)) value in
+    let cut = found_on (singles bs) marks c.args.from c.next_in.result (bytes_on bs (has_byte c.args.self.now)) value in
     record { value = value; cut = cut; seen = found.seen of }

@@ -1,5 +1,5 @@
 use Rattle.searchers.specs.Seen.{NoneEnds}
-use Rattle.searchers.proofs.scan.last_near.Given as goal
+use Rattle.searchers.proofs.scan.last_asked.Given as goal
 
 -- no mark ends after the offset that is asked for
 abbrev pub invariant-loop-last : goal.invariant-loop-last

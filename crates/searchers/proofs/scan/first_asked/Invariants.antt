@@ -1,5 +1,5 @@
 use Rattle.searchers.specs.Seen.{NoneBegins}
-use Rattle.searchers.proofs.scan.first_near.Given as goal
+use Rattle.searchers.proofs.scan.first_asked.Given as goal
 
 -- no mark begins before the offset that is asked for
 abbrev pub invariant-loop-start : goal.invariant-loop-start
