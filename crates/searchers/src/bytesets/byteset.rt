@@ -102,13 +102,22 @@ impl ByteSet {
         places_among(bytes, at, &self.listed[..self.len])
     }
 
-    // The first byte of the set from `from` on. Of many bytes each offset is asked: a look asks as
-    // often.
+    // The first byte of a set of many from `from` on: each offset is asked, since a look asks as
+    // often. A function of its own, so that the way of few is short.
+    #[inline(never)]
+    fn first_of_many(&self, bytes: &[u8], from: usize) -> Option<Mark>
+        ensures { Finds (single_bytes (has_byte self.now) bytes.now) from result }
+    {
+        first_asked(self, bytes, from, bytes.len())
+    }
+
+    // The first byte of the set from `from` on.
+    #[inline(always)]
     pub(super) fn first_in(&self, bytes: &[u8], from: usize) -> Option<Mark>
         ensures { Finds (single_bytes (has_byte self.now) bytes.now) from result }
     {
         if self.len > FEW {
-            return first_asked(self, bytes, from, bytes.len());
+            return self.first_of_many(bytes, from);
         }
         first_mark(self, bytes, from)
     }
@@ -127,12 +136,21 @@ impl ByteSet {
         next_close_mark(self, bytes, from, seen)
     }
 
-    // The last byte of the set before `before`, as the first is found.
+    // The last byte of a set of many before `before`, as the first is found.
+    #[inline(never)]
+    fn last_of_many(&self, bytes: &[u8], before: usize) -> Option<Mark>
+        ensures { FindsBack (single_bytes (has_byte self.now) bytes.now) before result }
+    {
+        last_asked(self, bytes, 0, before.min(bytes.len()))
+    }
+
+    // The last byte of the set before `before`.
+    #[inline(always)]
     pub(super) fn last_in(&self, bytes: &[u8], before: usize) -> Option<Mark>
         ensures { FindsBack (single_bytes (has_byte self.now) bytes.now) before result }
     {
         if self.len > FEW {
-            return last_asked(self, bytes, 0, before.min(bytes.len()));
+            return self.last_of_many(bytes, before);
         }
         last_mark(self, bytes, before)
     }
