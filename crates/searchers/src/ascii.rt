@@ -37,7 +37,7 @@ pub trait AsciiPattern: Pattern {
 }
 
 /// The mark with the least start at or after the offset `from`; none exactly where there is none.
-// A function that each searcher calls, and no impl of `Searcher` for every such pattern: with one,
+// A function for searchers to call, and no impl of `Searcher` for every such pattern: with one,
 // two impls would fit `Substring`, and generic code over it gets no generated proof.
 pub fn first_ascii_mark<S: AsciiStr, P: AsciiPattern>(
     pattern: &P,

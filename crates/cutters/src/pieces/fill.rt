@@ -23,7 +23,7 @@ pub fn room(needed: usize, places: &[Place]) -> Result<usize, Refusal>
 }
 
 /// Writes the next pieces into the places, one into each; a place past the last piece is as it was. The source goes on
-/// behind the pieces that are written, and keeps what each of its nexts keeps, such as a loan.
+/// behind the pieces that are written, and keeps each number that each of its nexts keeps, such as the name of a loan.
 pub fn fill<P: Pieces>(source: &mut P, places: &mut [Place])
     ensures written { Filled (take (length places.old) (P.left source.old)) places.old places.new }
     ensures left { P.left source.new ≡ drop (length places.old) (P.left source.old) }

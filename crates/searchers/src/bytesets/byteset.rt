@@ -122,7 +122,8 @@ impl ByteSet {
         first_mark(self, bytes, from)
     }
 
-    // The same, where `seen` is what was seen of the same bytes for the set; it goes on from there.
+    // The same, where `seen` is what was seen of the same bytes for the set. That of few bytes goes on
+    // from there.
     #[inline(always)]
     pub(super) fn next_in(&self, bytes: &[u8], from: usize, seen: &mut Seen) -> Option<Mark>
         ensures value { IsSeenOf (single_bytes (has_byte self.now) bytes.now) seen.old
