@@ -8,7 +8,7 @@ ghost use Rattle.searchers.specs.bytesets.Sets.{IsSetOf, AllBelow, AllAscii, Asc
 ghost use Rattle.searchers.specs.bytesets.Sets.{single_bytes, single_bytes-lawful};
 
 use super::byteset::ByteSet;
-use crate::ascii::{AsciiPattern, AsciiStr};
+use crate::ascii::{AsciiPattern, AsciiStr, first_ascii_mark, last_ascii_mark};
 use crate::mark::Mark;
 use crate::scan::Pattern;
 use crate::searcher::{ReverseSearcher, Searcher};
@@ -120,8 +120,7 @@ impl<S: AsciiStr> Searcher<S> for AsciiSet {
     ghost lawful = { λ f text. single_bytes-lawful (has_ascii f) (bytes_of S.AnyStr text) };
 
     fn find(&self, text: &S, from: usize) -> Option<Mark> {
-        text.ascii_apart();
-        self.set.first_in(text.as_bytes(), from)
+        first_ascii_mark(self, text, from)
     }
 
     #[inline(always)]
@@ -137,8 +136,7 @@ impl<S: AsciiStr> Searcher<S> for AsciiSet {
 
 impl<S: AsciiStr> ReverseSearcher<S> for AsciiSet {
     fn rfind(&self, text: &S, before: usize) -> Option<Mark> {
-        text.ascii_apart();
-        self.set.last_in(text.as_bytes(), before)
+        last_ascii_mark(self, text, before)
     }
 
     #[inline(always)]

@@ -102,28 +102,8 @@ impl ByteSet {
         places_among(bytes, at, &self.listed[..self.len])
     }
 
-    // The first byte of a set of many from `from` on: each offset is asked, since a look asks as
-    // often. A function of its own, so that the way of few is short.
-    #[inline(never)]
-    fn first_of_many(&self, bytes: &[u8], from: usize) -> Option<Mark>
-        ensures { Finds (single_bytes (has_byte self.now) bytes.now) from result }
-    {
-        first_asked(self, bytes, from, bytes.len())
-    }
-
-    // The first byte of the set from `from` on.
-    #[inline(always)]
-    pub(super) fn first_in(&self, bytes: &[u8], from: usize) -> Option<Mark>
-        ensures { Finds (single_bytes (has_byte self.now) bytes.now) from result }
-    {
-        if self.len > FEW {
-            return self.first_of_many(bytes, from);
-        }
-        first_mark(self, bytes, from)
-    }
-
-    // The same, where `seen` is what was seen of the same bytes for the set. That of few bytes goes on
-    // from there.
+    // The first byte of the set from `from` on, where `seen` is what was seen of the same bytes for the
+    // set. Of many bytes each offset is asked, since a look asks as often; of few it goes on from there.
     #[inline(always)]
     pub(super) fn next_in(&self, bytes: &[u8], from: usize, seen: &mut Seen) -> Option<Mark>
         ensures value { IsSeenOf (single_bytes (has_byte self.now) bytes.now) seen.old
@@ -137,26 +117,7 @@ impl ByteSet {
         next_close_mark(self, bytes, from, seen)
     }
 
-    // The last byte of a set of many before `before`, as the first is found.
-    #[inline(never)]
-    fn last_of_many(&self, bytes: &[u8], before: usize) -> Option<Mark>
-        ensures { FindsBack (single_bytes (has_byte self.now) bytes.now) before result }
-    {
-        last_asked(self, bytes, 0, before.min(bytes.len()))
-    }
-
-    // The last byte of the set before `before`.
-    #[inline(always)]
-    pub(super) fn last_in(&self, bytes: &[u8], before: usize) -> Option<Mark>
-        ensures { FindsBack (single_bytes (has_byte self.now) bytes.now) before result }
-    {
-        if self.len > FEW {
-            return self.last_of_many(bytes, before);
-        }
-        last_mark(self, bytes, before)
-    }
-
-    // The same from what was seen from the end.
+    // The last byte of the set before `before`, by what was seen from the end.
     #[inline(always)]
     pub(super) fn previous_in(
         &self,
@@ -229,7 +190,7 @@ impl<'a> Searcher<Bytes<'a>> for ByteSet {
         (concat (⟦<Bytes<'a> as AnyStr>⟧.elements text)) };
 
     fn find(&self, text: &Bytes<'a>, from: usize) -> Option<Mark> {
-        self.first_in(text.as_bytes(), from)
+        first_mark(self, text.as_bytes(), from)
     }
 
     #[inline(always)]
@@ -246,7 +207,7 @@ impl<'a> ReverseSearcher<Bytes<'a>> for ByteSet {
     ghost use Rattle.searchers.specs.bytesets.ByteSets.{has_byte};
 
     fn rfind(&self, text: &Bytes<'a>, before: usize) -> Option<Mark> {
-        self.last_in(text.as_bytes(), before)
+        last_mark(self, text.as_bytes(), before)
     }
 
     #[inline(always)]

@@ -10,5 +10,5 @@ pub returns-clause-cut : goal.returns-clause-cut
 returns-clause-cut c =
     let bs = c.args.text.now.bytes.now in
     let marks = single_bytes (has_byte c.args.self.now) (concat (singles bs)) in
-    let found = rw c.as_bytes.ensures at c.last_in.ensures in
-    found_back_on (singles bs) marks c.args.before c.last_in.result (bytes_on bs (has_byte c.args.self.now)) found
+    let found = rw c.as_bytes.ensures at c.last_mark.ensures in
+    found_back_on (singles bs) marks c.args.before c.last_mark.result (bytes_on bs (has_byte c.args.self.now)) found

@@ -10,5 +10,5 @@ pub returns-clause-cut : goal.returns-clause-cut
 returns-clause-cut c =
     let bs = c.args.text.now.bytes.now in
     let marks = single_bytes (has_byte c.args.self.now) (concat (singles bs)) in
-    let found = rw c.as_bytes.ensures at c.first_in.ensures in
-    found_on (singles bs) marks c.args.from c.first_in.result (bytes_on bs (has_byte c.args.self.now)) found
+    let found = rw c.as_bytes.ensures at c.first_mark.ensures in
+    found_on (singles bs) marks c.args.from c.first_mark.result (bytes_on bs (has_byte c.args.self.now)) found
